@@ -1,0 +1,5 @@
+pub mod Refusals
+pub mod Lengths
+pub mod Nest
+pub mod Prefixes
+pub mod PrefixLaws
