@@ -3,3 +3,4 @@ pub mod Lengths
 pub mod Nest
 pub mod Prefixes
 pub mod PrefixLaws
+pub mod Lists

@@ -1,0 +1,2 @@
+// Rule sheets from bytes: a word reader, a rule reader and a sheet reader, each handing its fault on.
+pub mod sheet;

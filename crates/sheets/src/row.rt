@@ -1,0 +1,27 @@
+// A rule as a rule list has it: plain numbers, which need not be those of a rule.
+use fields::numbers::PrefixLength;
+use fields::numbers::PrefixLengthDebug;
+use fields::numbers::PrefixLengthEq;
+use fields::numbers::PrefixLengthPartialEq;
+
+// What a rule asks of one field.
+#[derive(Clone, Copy, PartialEq, Eq, Debug)]
+pub struct PatternRow {
+    pub length: PrefixLength,
+    pub number: u32,
+}
+
+// One for each side of a packet's way.
+#[derive(Clone, Copy, PartialEq, Eq, Debug)]
+pub struct Sides<T> {
+    pub source: T,
+    pub destination: T,
+}
+
+#[derive(Clone, Copy, PartialEq, Eq, Debug)]
+pub struct RuleRow {
+    pub number: u32,
+    pub addresses: Sides<PatternRow>,
+    pub ports: Sides<PatternRow>,
+    pub protocol: PatternRow,
+}
