@@ -12,9 +12,9 @@ use Rattle.std.proofs.shelf.Bits.{shr-shr, shr-split, pow-pos}
 use Rattle.std.proofs.shelf.Tests.{leb-true, le-leb, ltb-true, lt-ltb, and-parts, and-from, cases-lt, false≢true}
 use Rattle.std.specs.declared.result.Result.{Result}
 use Rattle.std.specs.declared.result.Result.the-variants.{Ok, Err}
-use Rattle.fields.specs.Lengths.{has, clean}
+use Rattle.fields.specs.Lengths.{has, clean, first-bits}
 use Rattle.fields.specs.Nest.{Nest}
-use Rattle.fields.specs.Prefixes.{first-bits, matches, within, make, make-known, make-clean}
+use Rattle.fields.specs.Prefixes.{matches, within, make, make-known, make-clean}
 use Rattle.fields.specs.declared.prefix.Prefix.{Prefix}
 use Rattle.fields.specs.declared.word.Word.{Word}
 use Rattle.fields.specs.declared.refusal.Refusal.{Refusal}

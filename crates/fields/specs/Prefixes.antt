@@ -1,19 +1,15 @@
 -- What prefixes mean: the patterns of a kind of width w with the shortest length s, and the header values of w bits.
 use mathlib.Core.Path.{_≡_, refl}
 use mathlib.Core.Bool.{Bool, true, false, _&&_}
-use Prim.Native.Nat.{ℕ, _-_, _/_, _^_}
+use Prim.Native.Nat.{ℕ}
 use lib.Dec.{eqb, leb}
 use Rattle.std.specs.declared.result.Result.{Result}
 use Rattle.std.specs.declared.result.Result.the-variants.{Ok, Err}
-use Rattle.fields.specs.Lengths.{has, clean}
+use Rattle.fields.specs.Lengths.{has, clean, first-bits}
 use Rattle.fields.specs.declared.prefix.Prefix.{Prefix}
 use Rattle.fields.specs.declared.word.Word.{Word}
 use Rattle.fields.specs.declared.refusal.Refusal.{Refusal}
 use Rattle.fields.specs.declared.refusal.Refusal.the-variants.{Length, BitBeyond}
-
--- the first l bits of a number of w bits
-abbrev pub first-bits : ℕ → ℕ → ℕ → ℕ
-first-bits w l n = n / 2 ^ (w - l)
 
 -- a pattern matches a value when their first bits agree, as many as the pattern is long
 unfoldable pub matches : (w s : ℕ) → Prefix w s → Word w → Bool

@@ -4,5 +4,6 @@ pub mod numbers;
 pub mod prefix;
 pub mod prefixes;
 pub mod refusal;
+pub mod values;
 pub mod word;
 mod checks;

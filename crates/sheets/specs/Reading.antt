@@ -14,7 +14,7 @@ use Rattle.std.specs.declared.result.Result.the-variants.{Ok, Err}
 use Rattle.fields.specs.Lengths.{has, clean}
 use Rattle.fields.specs.Refusals.{Test, first, code}
 use Rattle.sheets.specs.Faults.{layer-of}
-use Rattle.sheets.specs.Words.{kind, rest, side, size, low, kind-due, side-due, bits-due, word-at}
+use Rattle.sheets.specs.Words.{kind, rest, side, size, low, kind-due, side-due, word-at}
 use Rattle.sheets.specs.declared.part.Side.the-variants.{Source, Destination}
 use Rattle.sheets.specs.declared.part.Part.{Part}
 use Rattle.sheets.specs.declared.part.Part.the-variants.{Upper, Lower, Port, Protocol}

@@ -3,4 +3,4 @@ use Rattle.fields.proofs.prefixes.PrefixesKind.matches.Needs as need
 
 pub returns : need.returns
 unfolding matches
-returns g c = cc
+returns g c = c .agree .ensures

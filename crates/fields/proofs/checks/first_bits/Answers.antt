@@ -3,7 +3,7 @@ use native.Mathlib.Nat.{div-eq-of-lt}
 use native.Mathlib.Omega.{arith}
 use lib.Pow.{pow-mono}
 use Prim.Native.Nat.{_≤_, _-_}
-use Rattle.fields.proofs.prefixes.first_bits.Needs as need
+use Rattle.fields.proofs.checks.first_bits.Needs as need
 
 pub returns-else-rest-lt32 : need.returns-else-rest-lt32
 returns-else-rest-lt32 c =
