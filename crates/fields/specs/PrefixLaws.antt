@@ -9,14 +9,14 @@ use native.Mathlib.Omega.{arith}
 use lib.Dec.{eqb, leb, ltb}
 use borrow.Author.Tests.{eq-eqb, eqb-true}
 use Rattle.std.proofs.shelf.Bits.{shr-shr, shr-split, pow-pos}
-use Rattle.std.proofs.shelf.Tests.{leb-true, le-leb, ltb-true, lt-ltb, and-parts, and-from, cases-lt, false≢true}
+use Rattle.std.proofs.shelf.Tests.{leb-true, le-leb, ltb-true, lt-ltb, and-parts, and-from, or-cases, or-left, or-right, cases-lt, false≢true}
 use Rattle.std.specs.declared.result.Result.{Result}
 use Rattle.std.specs.declared.result.Result.the-variants.{Ok, Err}
 use Rattle.fields.specs.Lengths.{has, clean, first-bits}
 use Rattle.fields.specs.Nest.{Nest}
+use Rattle.fields.specs.Numbering.{Numbering}
 use Rattle.fields.specs.Prefixes.{matches, within, make, make-known, make-clean}
 use Rattle.fields.specs.declared.prefix.Prefix.{Prefix}
-use Rattle.fields.specs.declared.word.Word.{Word}
 use Rattle.fields.specs.declared.refusal.Refusal.{Refusal}
 use Rattle.fields.specs.declared.refusal.Refusal.the-variants.{Length, BitBeyond}
 
@@ -26,6 +26,13 @@ coarser w l m x y a b e =
     let s : w - l ≡ (w - m) + (m - l) = omega arith in
     let split : (n : ℕ) → first-bits w l n ≡ n / 2 ^ (w - m) / 2 ^ (m - l) = λ n. ap (λ (k : ℕ). n / 2 ^ k) s ∙ sym (shr-shr n (w - m) (m - l)) in
     split x ∙ ap (λ (k : ℕ). k / 2 ^ (m - l)) e ∙ sym (split y)
+
+-- no bit is the first of no bits
+no-bits : (w n : ℕ) → n < 2 ^ w → first-bits w 0 n ≡ first-bits w 0 0
+no-bits w n h =
+    let e : w - 0 ≡ w = omega arith in
+    let zeros : (k : ℕ) → k < 2 ^ w → first-bits w 0 k ≡ 0 = λ k l. ap (λ (m : ℕ). k / 2 ^ m) e ∙ div-eq-of-lt l in
+    zeros n h ∙ sym (zeros 0 (pow-pos w))
 
 module _ {w s : ℕ} where
   pub short : (p : Prefix w s) → p .length ≤ w
@@ -61,13 +68,17 @@ module _ {w s : ℕ} where
   unfolding within
   within-agrees p q h = eqb-true _ _ (and-parts (leb (q .length) (p .length)) _ h .1)
 
-  pub matches-from : (p : Prefix w s) (v : Word w) → first-bits w (p .length) (p .number) ≡ first-bits w (p .length) (v .number) → matches w s p v ≡ true
+  pub matches-from : (p : Prefix w s) (v : ℕ) → first-bits w (p .length) (p .number) ≡ first-bits w (p .length) v → matches w s p v ≡ true
   unfolding matches
-  matches-from p v e = eq-eqb _ _ e
+  matches-from p v e = or-right (eqb (p .length) 0) _ (eq-eqb _ _ e)
 
-  pub matches-agrees : (p : Prefix w s) (v : Word w) → matches w s p v ≡ true → first-bits w (p .length) (p .number) ≡ first-bits w (p .length) (v .number)
+  pub matches-empty : (p : Prefix w s) (v : ℕ) → p .length ≡ 0 → matches w s p v ≡ true
   unfolding matches
-  matches-agrees p v h = eqb-true _ _ h
+  matches-empty p v e = or-left _ _ (eq-eqb _ _ e)
+
+  pub matches-agrees : (p : Prefix w s) (v : ℕ) → matches w s p v ≡ true → (p .length ≡ 0) ⊎ (first-bits w (p .length) (p .number) ≡ first-bits w (p .length) v)
+  unfolding matches
+  matches-agrees p v h = ⊎-elim (λ a. inl (eqb-true _ _ a)) (λ b. inr (eqb-true _ _ b)) (or-cases (eqb (p .length) 0) _ h)
 
   pub antisymmetric : (p q : Prefix w s) → within w s p q ≡ true → within w s q p ≡ true → p ≡ q
   antisymmetric p q a b =
@@ -84,22 +95,30 @@ module _ {w s : ℕ} where
       within-from p r (omega (arith, within-shorter p q a, within-shorter q r b))
       (coarser w (r .length) (q .length) (p .number) (q .number) (within-shorter q r b) (short q) (within-agrees p q a) ∙ within-agrees q r b)
 
-  pub wider : (p q : Prefix w s) (v : Word w) → within w s p q ≡ true → matches w s p v ≡ true → matches w s q v ≡ true
-  wider p q v a b =
-      matches-from q v (sym (within-agrees p q a) ∙ coarser w (q .length) (p .length) (p .number) (v .number) (within-shorter p q a) (short p) (matches-agrees p v b))
+  pub wider : (p q : Prefix w s) (v : ℕ) → within w s p q ≡ true → matches w s p v ≡ true → matches w s q v ≡ true
+  wider p q v a b = ⊎-elim
+      (λ (e : p .length ≡ 0). matches-empty q v (omega (arith, within-shorter p q a)))
+      (λ e. matches-from q v (sym (within-agrees p q a) ∙ coarser w (q .length) (p .length) (p .number) v (within-shorter p q a) (short p) e))
+      (matches-agrees p v b)
 
-  one-nests : (p q : Prefix w s) (v : Word w) → matches w s p v ≡ true → matches w s q v ≡ true → q .length ≤ p .length → within w s p q ≡ true
-  one-nests p q v a b l =
-      within-from p q l (coarser w (q .length) (p .length) (p .number) (v .number) l (short p) (matches-agrees p v a) ∙ sym (matches-agrees q v b))
+  -- everything lies within a pattern of length 0
+  pub within-empty : (p q : Prefix w s) → q .length ≡ 0 → within w s p q ≡ true
+  within-empty p q e = within-from p q (omega arith) (subst (λ (l : ℕ). first-bits w l (p .number) ≡ first-bits w l (q .number)) (sym e) (no-bits w (p .number) (fits p) ∙ sym (no-bits w (q .number) (fits q))))
 
-  pub nested : (p q : Prefix w s) (v : Word w) → matches w s p v ≡ true → matches w s q v ≡ true → (within w s p q ≡ true) ⊎ (within w s q p ≡ true)
+  one-nests : (p q : Prefix w s) (v : ℕ) → matches w s p v ≡ true → matches w s q v ≡ true → q .length ≤ p .length → within w s p q ≡ true
+  one-nests p q v a b l = ⊎-elim
+      (λ (e : q .length ≡ 0). within-empty p q e)
+      (λ e. ⊎-elim
+        (λ (d : p .length ≡ 0). within-empty p q (omega arith))
+        (λ d. within-from p q l (coarser w (q .length) (p .length) (p .number) v l (short p) d ∙ sym e))
+        (matches-agrees p v a))
+      (matches-agrees q v b)
+
+  pub nested : (p q : Prefix w s) (v : ℕ) → matches w s p v ≡ true → matches w s q v ≡ true → (within w s p q ≡ true) ⊎ (within w s q p ≡ true)
   nested p q v a b = ⊎-elim
       (λ (l : p .length < q .length). inr (one-nests q p v b a (omega arith)))
       (λ (l : q .length ≤ p .length). inl (one-nests p q v a b l))
       (cases-lt (p .length) (q .length))
-
-  abbrev pub value-of : Prefix w s → Word w
-  value-of p = record { number = p .number; fits = fits p }
 
 unfoldable pub whole : (w s : ℕ) → Prefix w s
 whole w s = record {
@@ -109,21 +128,14 @@ whole w s = record {
   plain = and-from _ _ (lt-ltb 0 (2 ^ w) (pow-pos w)) (eq-eqb _ _ (zero-mod (2 ^ (w - 0))));
 }
 
--- no bit is the first of no bits
-no-bits : (w n : ℕ) → n < 2 ^ w → first-bits w 0 n ≡ first-bits w 0 0
-no-bits w n h =
-    let e : w - 0 ≡ w = omega arith in
-    let zeros : (k : ℕ) → k < 2 ^ w → first-bits w 0 k ≡ 0 = λ k l. ap (λ (m : ℕ). k / 2 ^ m) e ∙ div-eq-of-lt l in
-    zeros n h ∙ sym (zeros 0 (pow-pos w))
-
 module _ (w s : ℕ) where
   pub outermost : (p : Prefix w s) → within w s p (whole w s) ≡ true
   unfolding whole
-  outermost p = within-from p (whole w s) (omega arith) (no-bits w (p .number) (fits p))
+  outermost p = within-empty p (whole w s) refl
 
-  pub everything : (v : Word w) → matches w s (whole w s) v ≡ true
+  pub everything : (v : ℕ) → matches w s (whole w s) v ≡ true
   unfolding whole
-  everything v = matches-from (whole w s) v (sym (no-bits w (v .number) (v .fits)))
+  everything v = matches-empty (whole w s) v refl
 
 module _ (w s l n : ℕ) where
   pub make-at-clean : (h : has w s l ≡ true) (b : Bool) (c : clean w l n ≡ b) (p : Prefix w s) → p .length ≡ l → p .number ≡ n → make-clean w s l n h b c ≡ Ok p
@@ -186,11 +198,11 @@ module _ (w s l n : ℕ) where
   unfolding make
   make-beyond k e = beyond-known (has w s l) refl k e
 
--- what prefixes mean, with the laws
-abbrev pub prefix-nest : (w s : ℕ) → Nest (Prefix w s) (Word w)
-prefix-nest w s = record {
+-- what prefixes mean, with the laws, where V are the header values
+abbrev pub prefix-nest : (w s : ℕ) {V : Type 0} → Numbering V → Nest (Prefix w s) V
+prefix-nest w s g = record {
   within = within w s;
-  matches = matches w s;
+  matches = λ p v. matches w s p (g .number v);
   whole = whole w s;
   width = w;
   make = make w s;
@@ -200,10 +212,10 @@ prefix-nest w s = record {
   transitive = within-trans;
   antisymmetric = antisymmetric;
   outermost = outermost w s;
-  everything = everything w s;
-  wider = wider;
-  nested = nested;
-  inhabited = λ p. (value-of p, matches-from p (value-of p) refl);
+  everything = λ v. everything w s (g .number v);
+  wider = λ p q v. wider p q (g .number v);
+  nested = λ p q v. nested p q (g .number v);
+  inhabited = λ p. (g .value (p .number), matches-from p _ (ap (first-bits w (p .length)) (sym (g .back (p .number)))));
   made = λ p. make-is w s (p .length) (p .number) p refl refl;
   told = told w s;
   refused = refused w s;

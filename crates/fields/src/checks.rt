@@ -1,6 +1,6 @@
 // Tests on the bits of plain numbers.
 ghost use mathlib.Core.Path.{_≡_};
-ghost use mathlib.Core.Bool.{_&&_};
+ghost use mathlib.Core.Bool.{_&&_, _||_};
 ghost use Prim.Native.Nat.{_-_, _/_, _%_, _^_};
 ghost use lib.Dec.{eqb, leb, ltb};
 ghost use Rattle.fields.specs.Lengths.{has, clean as clean-at, first-bits};
@@ -42,10 +42,17 @@ fn first_bits(width: u8, length: u8, number: u32) -> u32
 }
 
 // Whether two numbers agree in their first bits, as many as `length`.
-pub(crate) fn agree(width: u8, length: u8, a: u32, b: u32) -> bool
+fn agree(width: u8, length: u8, a: u32, b: u32) -> bool
     ensures { λ r. ⌜ r ≡ eqb (first-bits width length a) (first-bits width length b) ⌝ }
 {
     first_bits(width, length, a) == first_bits(width, length, b)
+}
+
+// Whether the prefix of a length and a number matches a value.
+pub(crate) fn meets(width: u8, length: u8, number: u32, value: u32) -> bool
+    ensures { λ r. ⌜ r ≡ (eqb length 0 || eqb (first-bits width length number) (first-bits width length value)) ⌝ }
+{
+    length == 0 || agree(width, length, number, value)
 }
 
 // Whether the prefix of one length and number lies within that of another.

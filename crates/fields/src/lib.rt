@@ -1,9 +1,9 @@
 // The kinds of field that a rule speaks of, what their patterns mean, and the refusals of every call.
+pub mod bits;
 pub mod kind;
 pub mod numbers;
 pub mod prefix;
 pub mod prefixes;
 pub mod refusal;
-pub mod values;
-pub mod word;
+pub mod sides;
 mod checks;

@@ -10,7 +10,7 @@ use reader::sheet::read_sheet;
 use sheets::fault::Fault;
 use sheets::row::PatternRow;
 use sheets::row::RuleRow;
-use sheets::row::Sides;
+use fields::sides::Sides;
 use std::alloc::Global;
 use texts::lines::fault_line;
 use texts::lines::rules_lines;

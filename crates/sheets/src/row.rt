@@ -3,19 +3,16 @@ use fields::numbers::PrefixLength;
 use fields::numbers::PrefixLengthDebug;
 use fields::numbers::PrefixLengthEq;
 use fields::numbers::PrefixLengthPartialEq;
+use fields::sides::Sides;
+use fields::sides::SidesDebug;
+use fields::sides::SidesEq;
+use fields::sides::SidesPartialEq;
 
 // What a rule asks of one field.
 #[derive(Clone, Copy, PartialEq, Eq, Debug)]
 pub struct PatternRow {
     pub length: PrefixLength,
     pub number: u32,
-}
-
-// One for each side of a packet's way.
-#[derive(Clone, Copy, PartialEq, Eq, Debug)]
-pub struct Sides<T> {
-    pub source: T,
-    pub destination: T,
 }
 
 #[derive(Clone, Copy, PartialEq, Eq, Debug)]

@@ -1,6 +1,6 @@
 use mathlib.Core.Path.{sym, refl}
 use Rattle.fields.specs.PrefixLaws.{make-is, make-lacks, make-beyond}
-use Rattle.fields.proofs.prefixes.PrefixesKind.make.Needs as need
+use Rattle.fields.proofs.prefix.Prefix.new.Needs as need
 
 pub returns-then-not-has-length : need.returns-then-not-has-length
 returns-then-not-has-length g c = sym (make-lacks _ _ _ _ (sym (c .if-not-has-length .ensures tt)))

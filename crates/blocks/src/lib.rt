@@ -1,0 +1,48 @@
+// Header blocks: headers in bytes, sixteen to each.
+ghost use mathlib.Core.Path.{_≡_};
+ghost use Prim.Native.Nat.{_/_, _*_};
+ghost use lib.ListN.{length, drop};
+ghost use Rattle.std.specs.Vec.{made};
+ghost use Rattle.fields.specs.Refusals.{refusal};
+ghost use Rattle.blocks.specs.Laws.{Written-is-read, Read-is-written};
+ghost use Rattle.blocks.specs.Blocks.{read-refusal, listed, write-refusal, written};
+use fields::refusal::Refusal;
+use packets::header::Header;
+
+// Reads a block into a list of headers, and tells how many it has. A refused read leaves the list as it was.
+pub fn read_headers(bytes: &[u8], headers: &mut [Header]) -> Result<usize, Refusal>
+    ensures answer { λ r. ⌜ refusal r ≡ read-refusal (now (bytes .entry)) (length (now (headers .entry))) ⌝ }
+    ensures count { λ r. ⌜ made r (λ n. n ≡ length (now (bytes .entry)) / 16) ⌝ }
+    ensures list { λ _. ⌜ now (headers .exit) ≡ listed (read-refusal (now (bytes .entry)) (length (now (headers .entry)))) (now (bytes .entry)) (now (headers .entry)) ⌝ }
+{
+    if bytes.len() % 16 != 0 || headers.len() == 0 {
+        return Err(Refusal::HeaderBlock);
+    }
+    Err(Refusal::NoRoom)
+}
+
+// Writes the block of some headers, and tells how many bytes it has. A refused write leaves the output as it was.
+pub fn write_headers(headers: &[Header], out: &mut [u8]) -> Result<usize, Refusal>
+    ensures answer { λ r. ⌜ refusal r ≡ write-refusal (length (now (headers .entry))) (length (now (out .entry))) ⌝ }
+    ensures count { λ r. ⌜ made r (λ n. n ≡ 16 * length (now (headers .entry))) ⌝ }
+    ensures out { λ _. ⌜ now (out .exit) ≡ written (write-refusal (length (now (headers .entry))) (length (now (out .entry)))) (now (headers .entry)) (now (out .entry)) ⌝ }
+{
+    if headers.len() > out.len() {
+        return Err(Refusal::NoRoom);
+    }
+    Err(Refusal::NoRoom)
+}
+
+// A written block reads back as the same headers.
+pub fn written_is_read() -> u8
+    ensures { λ _. ⌜ Written-is-read ⌝ }
+{
+    0
+}
+
+// An accepted block, written again, has the same bytes.
+pub fn read_is_written() -> u8
+    ensures { λ _. ⌜ Read-is-written ⌝ }
+{
+    0
+}

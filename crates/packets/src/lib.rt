@@ -1,0 +1,4 @@
+// IPv4 packets (RFC 791): the header that a classifier is asked, and what follows it.
+pub mod header;
+pub mod packet;
+pub mod reading;

@@ -1,0 +1,4 @@
+pub mod Patterns
+pub mod Rows
+pub mod Joins
+pub mod Sheets
