@@ -109,9 +109,9 @@ module _ {w s : ℕ} where
   one-nests p q v a b l = ⊎-elim
       (λ (e : q .length ≡ 0). within-empty p q e)
       (λ e. ⊎-elim
-        (λ (d : p .length ≡ 0). within-empty p q (omega arith))
-        (λ d. within-from p q l (coarser w (q .length) (p .length) (p .number) v l (short p) d ∙ sym e))
-        (matches-agrees p v a))
+      (λ (d : p .length ≡ 0). within-empty p q (omega arith))
+      (λ d. within-from p q l (coarser w (q .length) (p .length) (p .number) v l (short p) d ∙ sym e))
+      (matches-agrees p v a))
       (matches-agrees q v b)
 
   pub nested : (p q : Prefix w s) (v : ℕ) → matches w s p v ≡ true → matches w s q v ≡ true → (within w s p q ≡ true) ⊎ (within w s q p ≡ true)

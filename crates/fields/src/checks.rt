@@ -9,7 +9,11 @@ ghost use Rattle.fields.specs.Lengths.{has, clean as clean-at, first-bits};
 fn clean(number: u32, place: u8) -> bool
     ensures { λ r. ⌜ r ≡ eqb (number % 2 ^ place) 0 ⌝ }
 {
-    if place < 32 { number % (1u32 << place) == 0 } else { number == 0 }
+    if place < 32 {
+        number % (1u32 << place) == 0
+    } else {
+        number == 0
+    }
 }
 
 // No bit is set at or above a place.
@@ -56,7 +60,13 @@ pub(crate) fn meets(width: u8, length: u8, number: u32, value: u32) -> bool
 }
 
 // Whether the prefix of one length and number lies within that of another.
-pub(crate) fn lies_within(width: u8, length: u8, number: u32, outer_length: u8, outer_number: u32) -> bool
+pub(crate) fn lies_within(
+    width: u8,
+    length: u8,
+    number: u32,
+    outer_length: u8,
+    outer_number: u32,
+) -> bool
     ensures { λ r. ⌜ r ≡ (leb «outer_length» length && eqb (first-bits width «outer_length» number) (first-bits width «outer_length» «outer_number»)) ⌝ }
 {
     outer_length <= length && agree(width, outer_length, number, outer_number)

@@ -8,6 +8,7 @@ use crate::refusal::Refusal;
 pub trait FieldKind {
     // What a rule asks of the field, and what a header has there.
     type Pattern: Copy;
+
     type Value: Copy;
 
     // The bits of a header value.

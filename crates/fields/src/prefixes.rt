@@ -16,7 +16,9 @@ pub struct Prefixes<V, const W: u8, const S: u8> {
 }
 
 pub type Address = Prefixes<u32, 32, 1>;
+
 pub type Port = Prefixes<u16, 16, 1>;
+
 pub type Protocol = Prefixes<u8, 8, 8>;
 
 impl<const W: u8, const S: u8> Prefix<W, S> {
@@ -31,12 +33,16 @@ impl<const W: u8, const S: u8> Prefix<W, S> {
         if !checks::is_clean(W, bits, number) {
             return Err(Refusal::BitBeyond);
         }
-        Ok(Prefix { length: bits, number })
+        Ok(Prefix {
+            length: bits,
+            number,
+        })
     }
 }
 
 pub impl<V: Bits + Copy, const W: u8, const S: u8> FieldKind for Prefixes<V, W, S> as PrefixesKind {
     type Pattern = Prefix<W, S>;
+
     type Value = V;
 
     const WIDTH: u8 = W;
@@ -60,7 +66,10 @@ pub impl<V: Bits + Copy, const W: u8, const S: u8> FieldKind for Prefixes<V, W, 
     }
 
     fn whole() -> Prefix<W, S> {
-        Prefix { length: 0, number: 0 }
+        Prefix {
+            length: 0,
+            number: 0,
+        }
     }
 
     fn matches(p: Prefix<W, S>, v: V) -> bool {

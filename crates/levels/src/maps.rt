@@ -20,7 +20,10 @@ pub struct LengthMap {
 }
 
 // The length map of the prefix at a place, or none where nothing stands there.
-pub fn length_map<const W: u8, const S: u8>(held: &[Prefix<W, S>], place: usize) -> Option<LengthMap>
+pub fn length_map<const W: u8, const S: u8>(
+    held: &[Prefix<W, S>],
+    place: usize,
+) -> Option<LengthMap>
     ensures { λ r. ⌜ Cases r (length (now (held .entry)) ≤ place) (λ m. (place < length (now (held .entry))) × ((d : Prefix W S) → Maps W S (now (held .entry)) (getD (now (held .entry)) place d) (m .lengths))) ⌝ }
 {
     if place >= held.len() {
@@ -42,7 +45,9 @@ pub fn level_by_map<const W: u8, const S: u8>(held: &[Prefix<W, S>], place: usiz
     ensures { λ r. ⌜ Cases r (length (now (held .entry)) ≤ place) (λ l. (place < length (now (held .entry))) × ((d : Prefix W S) → l .around ≡ level-of (within-prefix W S) (whole-prefix W S) (now (held .entry)) (getD (now (held .entry)) place d))) ⌝ }
 {
     match length_map(held, place) {
-        Some(map) => Some(Level { around: map.lengths.count_ones() as usize }),
+        Some(map) => Some(Level {
+            around: map.lengths.count_ones() as usize,
+        }),
         None => None,
     }
 }

@@ -7,7 +7,12 @@ ghost use Rattle.lines.specs.Lines.{header-line, refusal-line, write-refusal, 
 use fields::refusal::Refusal;
 
 // Writes the line of a header, and tells how many bytes it has. A refused write leaves the output as it was.
-pub fn write_header_line(index: usize, rules: &[u8], hits: usize, out: &mut [u8]) -> Result<usize, Refusal>
+pub fn write_header_line(
+    index: usize,
+    rules: &[u8],
+    hits: usize,
+    out: &mut [u8],
+) -> Result<usize, Refusal>
     ensures answer { λ r. ⌜ refusal-of r ≡ write-refusal (header-line index (now (rules .entry)) hits) (length (now (out .entry))) ⌝ }
     ensures count { λ r. ⌜ made r (λ n. n ≡ length (header-line index (now (rules .entry)) hits)) ⌝ }
     ensures out { λ _. ⌜ now (out .exit) ≡ written (write-refusal (header-line index (now (rules .entry)) hits) (length (now (out .entry)))) (header-line index (now (rules .entry)) hits) (now (out .entry)) ⌝ }

@@ -6,11 +6,11 @@ ghost use Rattle.fields.specs.declared.refusal.Refusal.the-variants.{Memory};
 ghost use Rattle.listing.specs.Listing.{sheet-text};
 use fields::numbers::PrefixLength;
 use fields::refusal::Refusal;
+use fields::sides::Sides;
 use reader::sheet::read_sheet;
 use sheets::fault::Fault;
 use sheets::row::PatternRow;
 use sheets::row::RuleRow;
-use fields::sides::Sides;
 use std::alloc::Global;
 use texts::lines::fault_line;
 use texts::lines::rules_lines;
@@ -18,12 +18,23 @@ use texts::lines::rules_lines;
 // A file of more bytes is refused.
 pub const MOST_BYTES: usize = 65536;
 
-const WHOLE: PatternRow = PatternRow { length: PrefixLength { bits: 0 }, number: 0 };
+const WHOLE: PatternRow = PatternRow {
+    length: PrefixLength { bits: 0 },
+    number: 0,
+};
 
-const BOTH: Sides<PatternRow> = Sides { source: WHOLE, destination: WHOLE };
+const BOTH: Sides<PatternRow> = Sides {
+    source: WHOLE,
+    destination: WHOLE,
+};
 
 // A place of a rule list that no rule has taken.
-const BLANK: RuleRow = RuleRow { number: 0, addresses: BOTH, ports: BOTH, protocol: WHOLE };
+const BLANK: RuleRow = RuleRow {
+    number: 0,
+    addresses: BOTH,
+    ports: BOTH,
+    protocol: WHOLE,
+};
 
 // The rules of a sheet as lines of text, or a line with its fault.
 pub fn sheet_text(heap: Global, bytes: &[u8]) -> Result<String, Refusal>

@@ -2,6 +2,7 @@
 use super::damages::DAMAGES;
 use super::damages::WORDS;
 use fields::numbers::PrefixLength;
+use fields::sides::Sides;
 use reader::sheet::read_sheet;
 use sheets::fault::Fault;
 use sheets::fault::Layer;
@@ -11,41 +12,70 @@ use sheets::row::PatternRow;
 use sheets::row::RuleRow;
 use sheets::row::RuleRowDebug;
 use sheets::row::RuleRowPartialEq;
-use fields::sides::Sides;
 use std::test::*;
 
-const NONE: PatternRow = PatternRow { length: PrefixLength { bits: 0 }, number: 0 };
+const NONE: PatternRow = PatternRow {
+    length: PrefixLength { bits: 0 },
+    number: 0,
+};
 
 // A row that no sheet here has, to see which places were written.
 pub const UNTOUCHED: RuleRow = RuleRow {
     number: 77,
-    addresses: Sides { source: NONE, destination: NONE },
-    ports: Sides { source: NONE, destination: NONE },
+    addresses: Sides {
+        source: NONE,
+        destination: NONE,
+    },
+    ports: Sides {
+        source: NONE,
+        destination: NONE,
+    },
     protocol: NONE,
 };
 
 fn pattern(bits: u8, number: u32) -> PatternRow {
-    PatternRow { length: PrefixLength { bits }, number }
+    PatternRow {
+        length: PrefixLength { bits },
+        number,
+    }
 }
 
 // The three rules of the sheet.
 pub fn three_rules() -> [RuleRow; 3] {
     let first = RuleRow {
         number: 1,
-        addresses: Sides { source: pattern(8, 0x0A00_0000), destination: NONE },
-        ports: Sides { source: NONE, destination: NONE },
+        addresses: Sides {
+            source: pattern(8, 0x0A00_0000),
+            destination: NONE,
+        },
+        ports: Sides {
+            source: NONE,
+            destination: NONE,
+        },
         protocol: NONE,
     };
     let second = RuleRow {
         number: 2,
-        addresses: Sides { source: pattern(16, 0x0A01_0000), destination: pattern(24, 0xC000_0200) },
-        ports: Sides { source: NONE, destination: NONE },
+        addresses: Sides {
+            source: pattern(16, 0x0A01_0000),
+            destination: pattern(24, 0xC000_0200),
+        },
+        ports: Sides {
+            source: NONE,
+            destination: NONE,
+        },
         protocol: NONE,
     };
     let third = RuleRow {
         number: 9,
-        addresses: Sides { source: pattern(32, 0x0A01_0001), destination: NONE },
-        ports: Sides { source: pattern(1, 0x8000), destination: pattern(16, 5004) },
+        addresses: Sides {
+            source: pattern(32, 0x0A01_0001),
+            destination: NONE,
+        },
+        ports: Sides {
+            source: pattern(1, 0x8000),
+            destination: pattern(16, 5004),
+        },
         protocol: pattern(8, 17),
     };
     [first, second, third]
@@ -65,7 +95,12 @@ pub fn sheet_bytes(word: usize, value: u32) -> [u8; 100] {
     bytes
 }
 
-fn check_fault(r: Result<usize, Fault>, number: u8, place: usize, layer: Layer) -> Result<(), Fail> {
+fn check_fault(
+    r: Result<usize, Fault>,
+    number: u8,
+    place: usize,
+    layer: Layer,
+) -> Result<(), Fail> {
     match r {
         Ok(_) => Err(Fail::new("accepted")),
         Err(fault) => {
@@ -110,7 +145,12 @@ fn cut_short() -> Result<(), Fail> {
     for n in 1..100usize {
         let number = if n % 4 != 0 { 10 } else { 15 };
         let place = if n % 4 != 0 { 0 } else { n / 4 };
-        check_fault(read_sheet(&bytes[0..n], &mut list), number, place, Layer::Sheet)?;
+        check_fault(
+            read_sheet(&bytes[0..n], &mut list),
+            number,
+            place,
+            Layer::Sheet,
+        )?;
     }
     Ok(())
 }

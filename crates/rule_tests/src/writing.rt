@@ -21,7 +21,10 @@ fn check_refused(rules: &[RuleRow], room: usize, number: u8) -> Result<(), Fail>
 }
 
 fn pattern(bits: u8, number: u32) -> PatternRow {
-    PatternRow { length: PrefixLength { bits }, number }
+    PatternRow {
+        length: PrefixLength { bits },
+        number,
+    }
 }
 
 #[test]

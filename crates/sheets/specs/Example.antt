@@ -37,20 +37,20 @@ abbrev pub computed : Results
 computed = record {
   words = sheet-words (rule-one ∷ []);
   verdicts =
-    sheet-read (sheet-bytes (rule-one ∷ [])) 1 ∷ sheet-read (sheet-bytes (rule-one ∷ [])) 0 ∷ sheet-read (sheet-bytes []) 0 ∷
-    sheet-read [] 1 ∷ sheet-read (take 5 (sheet-bytes (rule-one ∷ []))) 1 ∷ sheet-read (take 12 (sheet-bytes (rule-one ∷ []))) 1 ∷
-    damaged 0 0xC000_0000 ∷ damaged 0 0x2000_0100 ∷ damaged 1 0x4840_0A00 ∷ damaged 2 0x6000_0001 ∷ damaged 2 0x7000_0000 ∷
-    damaged 4 0xC000_0000 ∷ damaged 7 0xA1C0_0000 ∷ damaged 8 0xC000_0002 ∷ damaged 8 0x2000_0001 ∷ [];
+      sheet-read (sheet-bytes (rule-one ∷ [])) 1 ∷ sheet-read (sheet-bytes (rule-one ∷ [])) 0 ∷ sheet-read (sheet-bytes []) 0 ∷
+      sheet-read [] 1 ∷ sheet-read (take 5 (sheet-bytes (rule-one ∷ []))) 1 ∷ sheet-read (take 12 (sheet-bytes (rule-one ∷ []))) 1 ∷
+      damaged 0 0xC000_0000 ∷ damaged 0 0x2000_0100 ∷ damaged 1 0x4840_0A00 ∷ damaged 2 0x6000_0001 ∷ damaged 2 0x7000_0000 ∷
+      damaged 4 0xC000_0000 ∷ damaged 7 0xA1C0_0000 ∷ damaged 8 0xC000_0002 ∷ damaged 8 0x2000_0001 ∷ [];
 }
 
 abbrev pub expected : Results
 expected = record {
   words = one;
   verdicts =
-    accepted (rule-one ∷ []) ∷ refused 9 0 Sheet ∷ accepted [] ∷
-    refused 10 0 Sheet ∷ refused 10 0 Sheet ∷ refused 15 3 Sheet ∷
-    refused 15 1 Sheet ∷ refused 1 0 Rule ∷ refused 2 1 Word ∷ refused 3 2 Word ∷ refused 12 2 Word ∷
-    refused 11 4 Word ∷ refused 2 7 Word ∷ refused 14 8 Sheet ∷ refused 13 8 Rule ∷ [];
+      accepted (rule-one ∷ []) ∷ refused 9 0 Sheet ∷ accepted [] ∷
+      refused 10 0 Sheet ∷ refused 10 0 Sheet ∷ refused 15 3 Sheet ∷
+      refused 15 1 Sheet ∷ refused 1 0 Rule ∷ refused 2 1 Word ∷ refused 3 2 Word ∷ refused 12 2 Word ∷
+      refused 11 4 Word ∷ refused 2 7 Word ∷ refused 14 8 Sheet ∷ refused 13 8 Rule ∷ [];
 }
 
 abbrev pub Worked : Type 0

@@ -27,10 +27,15 @@ impl Fault {
         ensures { λ r. ⌜ r ≡ fault-at refusal place ⌝ }
     {
         let layer = match refusal {
-            Refusal::Length | Refusal::BitBeyond | Refusal::WordKind | Refusal::WordBits => Layer::Word,
+            Refusal::Length | Refusal::BitBeyond | Refusal::WordKind | Refusal::WordBits =>
+                Layer::Word,
             Refusal::RuleNumber | Refusal::RuleOrder => Layer::Rule,
             _ => Layer::Sheet,
         };
-        Fault { refusal, place, layer }
+        Fault {
+            refusal,
+            place,
+            layer,
+        }
     }
 }

@@ -61,12 +61,30 @@ pub impl fmt::Display for RuleText as RuleTextDisplay {
     fn fmt<W: fmt::Write>(&self, f: &mut fmt::Formatter<W>) -> fmt::Result {
         let rule = self.0;
         let number = rule.number;
-        let source = PatternText { row: rule.addresses.source, notation: Notation::Dotted };
-        let destination = PatternText { row: rule.addresses.destination, notation: Notation::Dotted };
-        let source_port = PatternText { row: rule.ports.source, notation: Notation::Plain };
-        let destination_port = PatternText { row: rule.ports.destination, notation: Notation::Plain };
-        let protocol = PatternText { row: rule.protocol, notation: Notation::Plain };
-        write!(f, "{number}: {source} {destination} {source_port} {destination_port} {protocol}")
+        let source = PatternText {
+            row: rule.addresses.source,
+            notation: Notation::Dotted,
+        };
+        let destination = PatternText {
+            row: rule.addresses.destination,
+            notation: Notation::Dotted,
+        };
+        let source_port = PatternText {
+            row: rule.ports.source,
+            notation: Notation::Plain,
+        };
+        let destination_port = PatternText {
+            row: rule.ports.destination,
+            notation: Notation::Plain,
+        };
+        let protocol = PatternText {
+            row: rule.protocol,
+            notation: Notation::Plain,
+        };
+        write!(
+            f,
+            "{number}: {source} {destination} {source_port} {destination_port} {protocol}"
+        )
     }
 }
 
