@@ -5,7 +5,7 @@ use mathlib.Core.List.{List}
 use Prim.Native.Nat.{ℕ, _-_, _*_, _/_, _%_, _^_}
 use lib.Dec.{eqb, leb}
 use Rattle.fields.specs.Lists.{any}
-use Rattle.fields.specs.Prefixes.{first-bits}
+use Rattle.fields.specs.Lengths.{first-bits}
 use Rattle.fields.specs.declared.prefix.Prefix.{Prefix}
 
 -- bit n of a number

@@ -7,11 +7,15 @@ ghost use Rattle.fields.specs.Prefixes.{within as within-prefix};
 ghost use Rattle.fields.specs.PrefixLaws.{whole as whole-prefix};
 ghost use Rattle.levels.specs.Levels.{level as level-of};
 ghost use Rattle.levels.specs.Maps.{Maps};
+use fields::bits::AddressBits;
 use fields::kind::FieldKind;
 use fields::numbers::Level;
 use fields::prefix::Prefix;
 use fields::prefixes::Prefixes;
 use fields::prefixes::PrefixesKind;
+
+// The kind of the prefixes; its header values do not matter here.
+type Kind<const W: u8, const S: u8> = Prefixes<u32, W, S>;
 
 // Bit n stands for the prefixes of length n.
 #[derive(Clone, Copy, PartialEq, Eq, Debug)]
@@ -32,8 +36,8 @@ pub fn length_map<const W: u8, const S: u8>(
     let p = held[place];
     let mut lengths = 0;
     for q in held {
-        let bits = Prefixes::<W, S>::length(*q).bits;
-        if bits > 0 && Prefixes::<W, S>::within(p, *q) {
+        let bits = Kind::<W, S>::length(*q).bits;
+        if bits > 0 && Kind::<W, S>::within(p, *q) {
             lengths |= 1u64 << bits;
         }
     }

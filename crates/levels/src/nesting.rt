@@ -1,12 +1,11 @@
 // Levels and nearest containers, from the laws of a kind alone.
 ghost use mathlib.Core.Path.{_≡_};
-ghost use mathlib.Core.Bool.{true, false};
+ghost use mathlib.Core.Bool.{true};
 ghost use mathlib.Core.List.{_∷_};
-ghost use lib.ListN.{length, take};
-ghost use Prim.Native.Nat.{_<_};
 ghost use Rattle.std.specs.Vec.{listOf};
 ghost use Rattle.fields.specs.Lists.{any};
 ghost use Rattle.levels.specs.Levels.{same as same-pattern, around as around-pattern, level as level-of, nearest as nearest-of};
+ghost use Rattle.levels.specs.Told.{told};
 use fields::kind::FieldKind;
 use fields::numbers::Level;
 
@@ -24,15 +23,27 @@ pub fn around<K: FieldKind>(p: K::Pattern, q: K::Pattern) -> bool
     K::within(p, q) && !K::within(q, p)
 }
 
-// Whether the pattern q is the whole one, or stands among the first `count` patterns.
-fn marked_before<K: FieldKind>(patterns: &[K::Pattern], count: usize, q: K::Pattern) -> bool
-    ensures { λ r. ⌜ r ≡ any (λ p. same-pattern (K·FieldKind .nest .within) p q) (K·FieldKind .nest .whole ∷ take count (now (patterns .entry))) ⌝ }
+// Whether two patterns are one, by the length and the number that each tells.
+// These also bound how many patterns there are.
+fn alike<K: FieldKind>(a: K::Pattern, b: K::Pattern) -> bool
+    ensures one { λ r. ⌜ r ≡ same-pattern (K·FieldKind .nest .within) a b ⌝ }
+    ensures few { λ _. ⌜ (told (K·FieldKind .nest) a ≡ true) × (told (K·FieldKind .nest) b ≡ true) ⌝ }
 {
-    if same::<K>(K::whole(), q) {
+    let lengths = K::length(a).bits == K::length(b).bits;
+    let numbers = K::number(a) == K::number(b);
+    lengths && numbers
+}
+
+// Whether the pattern q is the whole one, or one of these.
+fn marked<K: FieldKind>(patterns: &[K::Pattern], q: K::Pattern) -> bool
+    ensures found { λ r. ⌜ r ≡ any (λ p. same-pattern (K·FieldKind .nest .within) p q) (K·FieldKind .nest .whole ∷ now (patterns .entry)) ⌝ }
+    ensures few { λ _. ⌜ (told (K·FieldKind .nest) (K·FieldKind .nest .whole) ≡ true) × (told (K·FieldKind .nest) q ≡ true) ⌝ }
+{
+    if alike::<K>(K::whole(), q) {
         return true;
     }
-    for p in patterns.iter().take(count) {
-        if same::<K>(*p, q) {
+    for p in patterns {
+        if alike::<K>(*p, q) {
             return true;
         }
     }
@@ -48,7 +59,7 @@ pub fn level<K: FieldKind>(patterns: &[K::Pattern], p: K::Pattern) -> Level
         count = 1;
     }
     for (i, q) in patterns.iter().enumerate() {
-        if around::<K>(p, *q) && !marked_before::<K>(patterns, i, *q) {
+        if around::<K>(p, *q) && !marked::<K>(&patterns[..i], *q) {
             count += 1;
         }
     }
