@@ -4,12 +4,12 @@ use mathlib.Core.Bool.{Bool, true, false, _&&_, _||_, Bool-set}
 use mathlib.Core.Logic.{_⊎_, inl, inr, ⊎-elim}
 use mathlib.Core.HLevel.{isProp→PathP}
 use Prim.Native.Nat.{ℕ, _+_, _-_, _*_, _/_, _%_, _^_, _<_, _≤_}
-use native.Mathlib.Nat.{div-eq-of-lt, zero-mod, zero-div}
+use native.Mathlib.Nat.{div-eq-of-lt, mod-eq-of-lt, zero-mod}
 use native.Mathlib.Omega.{arith}
 use lib.Dec.{eqb, leb, ltb}
 use borrow.Author.Tests.{eq-eqb, eqb-true}
-use Rattle.std.proofs.shelf.Bits.{shr-shr, shr-split, pow-pos}
-use Rattle.std.proofs.shelf.Tests.{leb-true, le-leb, ltb-true, lt-ltb, and-parts, and-from, or-cases, or-left, or-right, cases-lt, false≢true}
+use Rattle.std.proofs.shelf.Bits.{shr-shr, shr-split, pow-pos, mod-below}
+use Rattle.std.proofs.shelf.Tests.{leb-true, le-leb, ltb-true, lt-ltb, and-parts, and-from, cases-lt, false≢true}
 use Rattle.std.specs.declared.result.Result.{Result}
 use Rattle.std.specs.declared.result.Result.the-variants.{Ok, Err}
 use Rattle.fields.specs.Lengths.{has, clean, first-bits}
@@ -68,17 +68,13 @@ module _ {w s : ℕ} where
   unfolding within
   within-agrees p q h = eqb-true _ _ (and-parts (leb (q .length) (p .length)) _ h .1)
 
-  pub matches-from : (p : Prefix w s) (v : ℕ) → first-bits w (p .length) (p .number) ≡ first-bits w (p .length) v → matches w s p v ≡ true
+  pub matches-from : (p : Prefix w s) (v : ℕ) → first-bits w (p .length) (p .number) ≡ first-bits w (p .length) (v % 2 ^ w) → matches w s p v ≡ true
   unfolding matches
-  matches-from p v e = or-right (eqb (p .length) 0) _ (eq-eqb _ _ e)
+  matches-from p v e = eq-eqb _ _ e
 
-  pub matches-empty : (p : Prefix w s) (v : ℕ) → p .length ≡ 0 → matches w s p v ≡ true
+  pub matches-agrees : (p : Prefix w s) (v : ℕ) → matches w s p v ≡ true → first-bits w (p .length) (p .number) ≡ first-bits w (p .length) (v % 2 ^ w)
   unfolding matches
-  matches-empty p v e = or-left _ _ (eq-eqb _ _ e)
-
-  pub matches-agrees : (p : Prefix w s) (v : ℕ) → matches w s p v ≡ true → (p .length ≡ 0) ⊎ (first-bits w (p .length) (p .number) ≡ first-bits w (p .length) v)
-  unfolding matches
-  matches-agrees p v h = ⊎-elim (λ a. inl (eqb-true _ _ a)) (λ b. inr (eqb-true _ _ b)) (or-cases (eqb (p .length) 0) _ h)
+  matches-agrees p v h = eqb-true _ _ h
 
   pub antisymmetric : (p q : Prefix w s) → within w s p q ≡ true → within w s q p ≡ true → p ≡ q
   antisymmetric p q a b =
@@ -96,23 +92,12 @@ module _ {w s : ℕ} where
       (coarser w (r .length) (q .length) (p .number) (q .number) (within-shorter q r b) (short q) (within-agrees p q a) ∙ within-agrees q r b)
 
   pub wider : (p q : Prefix w s) (v : ℕ) → within w s p q ≡ true → matches w s p v ≡ true → matches w s q v ≡ true
-  wider p q v a b = ⊎-elim
-      (λ (e : p .length ≡ 0). matches-empty q v (omega (arith, within-shorter p q a)))
-      (λ e. matches-from q v (sym (within-agrees p q a) ∙ coarser w (q .length) (p .length) (p .number) v (within-shorter p q a) (short p) e))
-      (matches-agrees p v b)
-
-  -- everything lies within a pattern of length 0
-  pub within-empty : (p q : Prefix w s) → q .length ≡ 0 → within w s p q ≡ true
-  within-empty p q e = within-from p q (omega arith) (subst (λ (l : ℕ). first-bits w l (p .number) ≡ first-bits w l (q .number)) (sym e) (no-bits w (p .number) (fits p) ∙ sym (no-bits w (q .number) (fits q))))
+  wider p q v a b =
+      matches-from q v (sym (within-agrees p q a) ∙ coarser w (q .length) (p .length) (p .number) (v % 2 ^ w) (within-shorter p q a) (short p) (matches-agrees p v b))
 
   one-nests : (p q : Prefix w s) (v : ℕ) → matches w s p v ≡ true → matches w s q v ≡ true → q .length ≤ p .length → within w s p q ≡ true
-  one-nests p q v a b l = ⊎-elim
-      (λ (e : q .length ≡ 0). within-empty p q e)
-      (λ e. ⊎-elim
-      (λ (d : p .length ≡ 0). within-empty p q (omega arith))
-      (λ d. within-from p q l (coarser w (q .length) (p .length) (p .number) v l (short p) d ∙ sym e))
-      (matches-agrees p v a))
-      (matches-agrees q v b)
+  one-nests p q v a b l =
+      within-from p q l (coarser w (q .length) (p .length) (p .number) (v % 2 ^ w) l (short p) (matches-agrees p v a) ∙ sym (matches-agrees q v b))
 
   pub nested : (p q : Prefix w s) (v : ℕ) → matches w s p v ≡ true → matches w s q v ≡ true → (within w s p q ≡ true) ⊎ (within w s q p ≡ true)
   nested p q v a b = ⊎-elim
@@ -131,11 +116,15 @@ whole w s = record {
 module _ (w s : ℕ) where
   pub outermost : (p : Prefix w s) → within w s p (whole w s) ≡ true
   unfolding whole
-  outermost p = within-empty p (whole w s) refl
+  outermost p = within-from p (whole w s) (omega arith) (no-bits w (p .number) (fits p))
 
   pub everything : (v : ℕ) → matches w s (whole w s) v ≡ true
   unfolding whole
-  everything v = matches-empty (whole w s) v refl
+  everything v = matches-from (whole w s) v (sym (no-bits w (v % 2 ^ w) (mod-below v (2 ^ w) (pow-pos w))))
+
+  -- the value that a pattern's own number is
+  pub own : (p : Prefix w s) (v : ℕ) → v ≡ p .number → matches w s p v ≡ true
+  own p v e = matches-from p v (ap (first-bits w (p .length)) (sym (ap (λ (n : ℕ). n % 2 ^ w) e ∙ mod-eq-of-lt (fits p))))
 
 module _ (w s l n : ℕ) where
   pub make-at-clean : (h : has w s l ≡ true) (b : Bool) (c : clean w l n ≡ b) (p : Prefix w s) → p .length ≡ l → p .number ≡ n → make-clean w s l n h b c ≡ Ok p
@@ -215,7 +204,7 @@ prefix-nest w s g = record {
   everything = λ v. everything w s (g .number v);
   wider = λ p q v. wider p q (g .number v);
   nested = λ p q v. nested p q (g .number v);
-  inhabited = λ p. (g .value (p .number), matches-from p _ (ap (first-bits w (p .length)) (sym (g .back (p .number)))));
+  inhabited = λ p. (g .value (p .number), own w s p _ (g .back (p .number)));
   made = λ p. make-is w s (p .length) (p .number) p refl refl;
   told = told w s;
   refused = refused w s;

@@ -1,7 +1,7 @@
 -- What prefixes mean: the patterns of a kind of width w with the shortest length s, and header values of w bits.
 use mathlib.Core.Path.{_≡_, refl}
-use mathlib.Core.Bool.{Bool, true, false, _&&_, _||_}
-use Prim.Native.Nat.{ℕ}
+use mathlib.Core.Bool.{Bool, true, false, _&&_}
+use Prim.Native.Nat.{ℕ, _%_, _^_}
 use lib.Dec.{eqb, leb}
 use Rattle.std.specs.declared.result.Result.{Result}
 use Rattle.std.specs.declared.result.Result.the-variants.{Ok, Err}
@@ -10,9 +10,9 @@ use Rattle.fields.specs.declared.prefix.Prefix.{Prefix}
 use Rattle.fields.specs.declared.refusal.Refusal.{Refusal}
 use Rattle.fields.specs.declared.refusal.Refusal.the-variants.{Length, BitBeyond}
 
--- a pattern matches the value of a number when their first bits agree, as many as the pattern is long; the pattern of length 0 matches every value
+-- a pattern matches the value of a number of w bits when their first bits agree, as many as the pattern is long
 unfoldable pub matches : (w s : ℕ) → Prefix w s → ℕ → Bool
-matches w s p v = eqb (p .length) 0 || eqb (first-bits w (p .length) (p .number)) (first-bits w (p .length) v)
+matches w s p v = eqb (first-bits w (p .length) (p .number)) (first-bits w (p .length) (v % 2 ^ w))
 
 -- p lies within q when p is at least as long and begins with q's bits
 unfoldable pub within : (w s : ℕ) → Prefix w s → Prefix w s → Bool

@@ -1,6 +1,6 @@
 // Tests on the bits of plain numbers.
 ghost use mathlib.Core.Path.{_≡_};
-ghost use mathlib.Core.Bool.{_&&_, _||_};
+ghost use mathlib.Core.Bool.{_&&_};
 ghost use Prim.Native.Nat.{_-_, _/_, _%_, _^_};
 ghost use lib.Dec.{eqb, leb, ltb};
 ghost use Rattle.fields.specs.Lengths.{has, clean as clean-at, first-bits};
@@ -52,11 +52,18 @@ fn agree(width: u8, length: u8, a: u32, b: u32) -> bool
     first_bits(width, length, a) == first_bits(width, length, b)
 }
 
+// The lowest bits of a number, as many as `width`.
+fn lowest(width: u8, number: u32) -> u32
+    ensures { λ r. ⌜ r ≡ number % 2 ^ width ⌝ }
+{
+    if width < 32 { number % (1u32 << width) } else { number }
+}
+
 // Whether the prefix of a length and a number matches a value.
 pub(crate) fn meets(width: u8, length: u8, number: u32, value: u32) -> bool
-    ensures { λ r. ⌜ r ≡ (eqb length 0 || eqb (first-bits width length number) (first-bits width length value)) ⌝ }
+    ensures { λ r. ⌜ r ≡ eqb (first-bits width length number) (first-bits width length (value % 2 ^ width)) ⌝ }
 {
-    length == 0 || agree(width, length, number, value)
+    agree(width, length, number, lowest(width, value))
 }
 
 // Whether the prefix of one length and number lies within that of another.
