@@ -56,7 +56,11 @@ fn agree(width: u8, length: u8, a: u32, b: u32) -> bool
 fn lowest(width: u8, number: u32) -> u32
     ensures { λ r. ⌜ r ≡ number % 2 ^ width ⌝ }
 {
-    if width < 32 { number % (1u32 << width) } else { number }
+    if width < 32 {
+        number % (1u32 << width)
+    } else {
+        number
+    }
 }
 
 // Whether the prefix of a length and a number matches a value.

@@ -9,6 +9,7 @@ use crate::label::Label;
 
 pub trait Finder {
     type Pattern: Copy;
+
     type Value: Copy;
 
     // What the patterns mean: that of their kind.

@@ -30,6 +30,7 @@ impl<K: FieldKind> Scan<K> {
 
 pub impl<K: FieldKind> Finder for Scan<K> as ScanFinder {
     type Pattern = K::Pattern;
+
     type Value = K::Value;
 
     ghost nest = { K·FieldKind .nest };
@@ -56,7 +57,9 @@ pub impl<K: FieldKind> Finder for Scan<K> as ScanFinder {
             return None;
         }
         self.patterns.push_reserved(p);
-        Some(Label { place: count as u16 })
+        Some(Label {
+            place: count as u16,
+        })
     }
 
     fn best(&self, v: K::Value) -> Option<Label> {
