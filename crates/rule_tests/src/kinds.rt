@@ -1,7 +1,11 @@
 // Patterns, levels and length maps on worked examples.
+use fields::bits::AddressBits;
+use fields::bits::PortBits;
+use fields::bits::ProtocolBits;
 use fields::kind::FieldKind;
 use fields::numbers::PrefixLength;
 use fields::prefix::Prefix;
+use fields::prefix::PrefixPartialEq;
 use fields::prefixes::Address;
 use fields::prefixes::Port;
 use fields::prefixes::PrefixesKind;
@@ -9,7 +13,6 @@ use fields::prefixes::Protocol;
 use fields::refusal::Refusal;
 use fields::refusal::RefusalDebug;
 use fields::refusal::RefusalPartialEq;
-use fields::values;
 use levels::maps::length_map;
 use levels::maps::level_by_map;
 use levels::nesting::level;
@@ -54,9 +57,9 @@ fn widths() -> Result<(), Fail> {
 #[test]
 fn matching() -> Result<(), Fail> {
     let ten = Address::make(bits(8), 0x0A00_0000)?;
-    check(Address::matches(ten, values::address(0x0A01_0203)))?;
-    check(!Address::matches(ten, values::address(0x0B01_0203)))?;
-    check(Address::matches(Address::whole(), values::address(0x0B01_0203)))?;
+    check(Address::matches(ten, 0x0A01_0203))?;
+    check(!Address::matches(ten, 0x0B01_0203))?;
+    check(Address::matches(Address::whole(), 0x0B01_0203))?;
     let inner = Address::make(bits(16), 0x0A01_0000)?;
     check(Address::within(inner, ten) && !Address::within(ten, inner) && Address::within(ten, ten))
 }

@@ -1,6 +1,4 @@
-// Tests by tables: kinds, levels, and sheets, most of them damaged.
-#[cfg(test)]
-mod damages;
+// Tests on worked examples: kinds, levels, and sheets.
 #[cfg(test)]
 mod kinds;
 #[cfg(test)]

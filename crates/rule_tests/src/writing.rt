@@ -1,71 +1,87 @@
 // Rule lists written: the sheet, and every refusal.
+use super::reading::pattern;
 use super::reading::sheet_bytes;
-use super::reading::three_rules;
-use fields::numbers::PrefixLength;
-use sheets::row::PatternRow;
+use super::reading::two_rules;
 use sheets::row::RuleRow;
 use std::test::*;
 use writer::write_sheet;
 
-fn check_refused(rules: &[RuleRow], room: usize, number: u8) -> Result<(), Fail> {
-    let mut out = [0xEE; 104];
-    check(room <= 104)?;
+// The refusal's number; 0 where it was written, 255 where the output was changed all the same.
+fn refused(rules: &[RuleRow], room: usize) -> u8 {
+    let mut out = [0xEE; 72];
+    if room > 72 {
+        return 0;
+    }
     match write_sheet(rules, &mut out[0..room]) {
-        Ok(_) => return Err(Fail::new("written")),
-        Err(e) => check_eq(e.number(), number)?,
-    }
-    for b in out {
-        check_eq(b, 0xEE)?;
-    }
-    Ok(())
-}
-
-fn pattern(bits: u8, number: u32) -> PatternRow {
-    PatternRow {
-        length: PrefixLength { bits },
-        number,
+        Ok(_) => 0,
+        Err(e) if out == [0xEE; 72] => e.number(),
+        Err(_) => 255,
     }
 }
 
 #[test]
 fn written() -> Result<(), Fail> {
-    let mut out = [0xEE; 104];
-    match write_sheet(&three_rules(), &mut out) {
-        Ok(count) => check_eq(count, 100)?,
+    let mut out = [0; 72];
+    match write_sheet(&two_rules(), &mut out) {
+        Ok(count) => check_eq(count, 68)?,
         Err(_) => return Err(Fail::new("refused")),
     }
-    let bytes = sheet_bytes(25, 0);
-    for i in 0..100usize {
-        check_eq(out[i], bytes[i])?;
-    }
-    for i in 100..104usize {
-        check_eq(out[i], 0xEE)?;
-    }
-    Ok(())
+    check_eq(out, sheet_bytes())
 }
 
 #[test]
-fn refused() -> Result<(), Fail> {
-    check_refused(&three_rules(), 99, 9)?;
-    let mut rules = three_rules();
-    rules[2].number = 256;
-    check_refused(&rules, 100, 1)?;
-    rules[2].number = 2;
-    check_refused(&rules, 100, 13)?;
-    rules[2].number = 3;
-    rules[2].ports.source = pattern(17, 1);
-    rules[2].addresses.source = pattern(8, 1);
-    check_refused(&rules, 100, 2)?;
-    rules[2].ports.source = pattern(16, 1);
-    check_refused(&rules, 100, 3)?;
-    rules[2].addresses.source = pattern(32, 1);
-    rules[2].protocol = pattern(7, 0);
-    check_refused(&rules, 0, 2)?;
-    rules[2].protocol = pattern(8, 256);
-    check_refused(&rules, 0, 3)?;
-    rules[2].protocol = pattern(8, 255);
-    rules[1].number = 0;
-    check_refused(&rules, 0, 13)
+fn numbers() -> Result<(), Fail> {
+    let [first, second] = two_rules();
+    check_eq(refused(&[first, second], 67), 9)?;
+    check_eq(
+        refused(
+            &[
+                first,
+                RuleRow {
+                    number: 256,
+                    ..second
+                },
+            ],
+            68,
+        ),
+        1,
+    )?;
+    check_eq(
+        refused(
+            &[
+                first,
+                RuleRow {
+                    number: 2,
+                    ..second
+                },
+            ],
+            68,
+        ),
+        13,
+    )?;
+    check_eq(refused(&[RuleRow { number: 9, ..first }, second], 0), 13)
+}
+
+// All lengths are looked at before any bit, and the room last.
+#[test]
+fn patterns() -> Result<(), Fail> {
+    let [first, second] = two_rules();
+    let mut bad = second;
+    bad.addresses.source = pattern(8, 1);
+    bad.ports.source = pattern(17, 1);
+    check_eq(refused(&[first, bad], 68), 2)?;
+    bad.ports.source = pattern(16, 1);
+    check_eq(refused(&[first, bad], 0), 3)?;
+    bad = RuleRow {
+        protocol: pattern(7, 0),
+        ..second
+    };
+    check_eq(refused(&[first, bad], 0), 2)?;
+    bad = RuleRow {
+        protocol: pattern(8, 256),
+        ..second
+    };
+    check_eq(refused(&[first, bad], 0), 3)
 }
 
 // The end word alone.

@@ -1,0 +1,3 @@
+pub mod Headers
+pub mod Steps
+pub mod Trips

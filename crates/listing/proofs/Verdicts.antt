@@ -1,0 +1,46 @@
+-- What the answer of the reader and the list that it leaves tell of the sheet.
+use mathlib.Core.Path.{_≡_, refl, sym, ap, _∙_}
+use mathlib.Core.List.{List, [], _∷_, _++_}
+use Prim.Native.Nat.{ℕ, _+_, _-_, _≤_, _<_}
+use native.Mathlib.Omega.{arith}
+use lib.ListN.{length, take, drop}
+use Rattle.std.specs.declared.result.Result.{Result}
+use Rattle.std.specs.declared.result.Result.the-variants.{Ok, Err}
+use Rattle.std.proofs.shelf.Lists.{length-append, take-at}
+use Rattle.std.proofs.shelf.Tests.{cond-false, le-ltb}
+use Rattle.fields.specs.Refusals.{code}
+use Rattle.sheets.specs.Reading.{Verdict, accepted, refused, Answers, listed, sheet-read}
+use Rattle.sheets.specs.declared.row.RuleRow.{RuleRow}
+use Rattle.sheets.specs.declared.fault.Fault.{Fault}
+use Rattle.texts.specs.Text.{rules-lines, fault-text, line}
+use Rattle.listing.specs.Listing.{verdict-text, sheet-text}
+
+pub record Taken (v : Verdict) (n : ℕ) (list : List RuleRow) : Type 0 where
+  pub within : n ≤ length list
+  pub rules : v ≡ accepted (take n list)
+
+pub taken : (v : Verdict) (n : ℕ) (before after : List RuleRow) → Answers v (Ok n) → after ≡ listed v before → Taken v n after
+taken (accepted rs) n before after a l =
+    let e : n ≡ length rs = cc in
+    record {
+      within = omega (arith, ap length l ∙ length-append rs (drop (length rs) before));
+      rules = ap accepted (sym (ap (take n) l ∙ take-at rs (drop (length rs) before) n (sym e)));
+    }
+taken (refused k i y) n before after (f, e, _, _, _) l = let z : _≡_ {A = ℕ} 0 1 = cc in absurd (omega arith)
+
+pub faulted : (v : Verdict) (f : Fault) → Answers v (Err f) → v ≡ refused (code (f .refusal)) (f .place) (f .layer)
+faulted (accepted rs) f a = let z : _≡_ {A = ℕ} 0 1 = cc in absurd (omega arith)
+faulted (refused n i l) f (g, e, a, b, d) = let h : f ≡ g = cc in cc
+
+-- a file that is not too long is read
+module _ (bytes : List ℕ) (short : length bytes ≤ 65536) where
+  read : sheet-text bytes ≡ verdict-text (sheet-read bytes 256)
+  read = cond-false _ _ _ (le-ltb 65536 (length bytes) short)
+
+  pub rules-text : (n : ℕ) (list : List RuleRow) → Taken (sheet-read bytes 256) n list → rules-lines (take (n - 0) list) ≡ sheet-text bytes
+  rules-text n list t =
+      let e : n - 0 ≡ n = omega arith in
+      ap (λ (k : ℕ). rules-lines (take k list)) e ∙ sym (read ∙ ap verdict-text (t .rules))
+
+  pub fault-line : (f : Fault) → sheet-read bytes 256 ≡ refused (code (f .refusal)) (f .place) (f .layer) → line (fault-text (code (f .refusal)) (f .place) (f .layer)) ≡ sheet-text bytes
+  fault-line f e = sym (read ∙ ap verdict-text e)
