@@ -3,7 +3,8 @@ use mathlib.Core.Path.{_≡_, _∙_}
 use Prim.Native.Nat.{_≤_}
 use lib.ListN.{length}
 use Rattle.std.proofs.shelf.Results.{made-weaker}
-use Rattle.listing.proofs.Verdicts.{taken, faulted, rules-text, fault-line}
+use Rattle.sheets.proofs.Verdicts.{taken, faulted}
+use Rattle.listing.proofs.Texts.{rules-text, fault-line}
 use Rattle.listing.proofs.sheet_text.Needs as need
 
 pub part-rules-lines-end : need.part-rules-lines-end
