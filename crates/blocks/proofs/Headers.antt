@@ -13,7 +13,7 @@ use Rattle.std.proofs.shelf.Counted.{fill-by-all}
 use Rattle.std.proofs.shelf.Elements.{all-getD}
 use Rattle.std.proofs.shelf.Lists.{length-append, length-take-le, take-append-drop, getD-take, getD-drop}
 use Rattle.std.proofs.shelf.Tests.{or-parts, not-false, eqb-true}
-use Rattle.packets.specs.Bytes.{byte, two, four}
+use Rattle.bytes.specs.Numbers.{byte, two, four}
 use Rattle.packets.specs.declared.header.Header.{Header}
 use Rattle.blocks.specs.Blocks.{two-bytes, four-bytes, header-bytes, block-bytes, header-at, spoiled}
 

@@ -13,7 +13,7 @@ use Rattle.std.proofs.shelf.Lists.{append-assoc, length-append, length-map, len
 use Rattle.fields.specs.Lists.{any}
 use Rattle.packets.specs.declared.header.Header.{Header}
 use Rattle.blocks.specs.Blocks.{header-bytes, block-bytes, header-at, spoiled, starts}
-use Rattle.blocks.specs.Output.{put-at}
+use Rattle.bytes.specs.Output.{put-at}
 use Rattle.blocks.proofs.Headers.{starts-from, length-block}
 
 module _ (bs : List ℕ) (i : ℕ) where
@@ -40,26 +40,3 @@ module _ (bs : List ℕ) (i : ℕ) where
       ap (λ ys. set (xs ++ ys) i (header-at bs (16 * i))) (drop-more hs i d l) ∙
       (set-at xs _ (drop (i + 1) hs) (header-at bs (16 * i)) i n ∙
       (sym (append-assoc xs (header-at bs (16 * i) ∷ []) (drop (i + 1) hs)) ∙ ap (λ ys. ys ++ drop (i + 1) hs) (sym more)))
-
--- ---- bytes after bytes
-pub put-next : (at p : ℕ) (s t out : List ℕ) → at + length s ≡ p → at ≤ length out → put-at p t (put-at at s out) ≡ put-at at (s ++ t) out
-unfolding put-at
-put-next at p s t out e l =
-    ap (λ q. paste (paste out at s (length s)) q t (length t)) (sym e) ∙
-    (paste-paste out at s t (length s) (length t) refl refl l ∙ ap (paste out at (s ++ t)) (sym (length-append s t)))
-
-pub put-none : (at : ℕ) (out : List ℕ) → put-at at [] out ≡ out
-unfolding put-at
-put-none at out = sym (paste-none out at [])
-
-pub put-front : (s out : List ℕ) (n : ℕ) → length s ≡ n → put-at 0 s out ≡ s ++ drop n out
-unfolding put-at
-put-front s out n e = paste-all out 0 s (length s) refl ∙ ap (λ m. s ++ drop m out) (zero-add (length s) ∙ e)
-
--- the bytes of header i after those before it
-pub put-more : (out : List ℕ) (hs : List Header) (i : ℕ) (d : Header) → i < length hs
-    → put-at (16 * i) (header-bytes (getD hs i d)) (put-at 0 (block-bytes (take i hs)) out) ≡ put-at 0 (block-bytes (take (i + 1) hs)) out
-put-more out hs i d l =
-    let n = length-block (take i hs) ∙ ap (λ j. 16 * j) (length-take-le i hs (omega arith)) in
-    let more = ap block-bytes (take-more hs i d l) ∙ sym (joined-more header-bytes [] (take i hs) (getD hs i d)) in
-    put-next 0 (16 * i) (block-bytes (take i hs)) (header-bytes (getD hs i d)) out (omega arith) (omega arith) ∙ ap (λ bs. put-at 0 bs out) (sym more)

@@ -10,7 +10,7 @@ use Rattle.std.specs.declared.option.Option.the-variants.{Some, None}
 use Rattle.std.specs.shelf.Lists.{joined}
 use Rattle.fields.specs.Refusals.{Test, first}
 use Rattle.fields.specs.Lists.{any}
-use Rattle.packets.specs.Bytes.{byte, two, four}
+use Rattle.bytes.specs.Numbers.{byte, two, four}
 use Rattle.packets.specs.declared.header.Header.{Header}
 
 -- ---- the format: both addresses, both ports, source first, the protocol, three bytes 0; the highest byte first

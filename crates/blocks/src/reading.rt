@@ -4,32 +4,12 @@ ghost use mathlib.Core.List.{_++_};
 ghost use Prim.Native.Nat.{_+_, _/_, _≤_};
 ghost use lib.ListN.{length, drop};
 ghost use Rattle.fields.specs.Lists.{any};
-ghost use Rattle.packets.specs.Bytes.{two, four};
 ghost use Rattle.blocks.specs.Blocks.{header-at, headers-in, spoiled, starts};
 use crate::HEADER_BYTES;
+use bytes::number_of_four;
+use bytes::number_of_two;
 use fields::sides::Sides;
 use packets::header::Header;
-
-// The address that begins at a place, its highest byte first.
-fn read_address(bytes: &[u8], place: usize) -> u32
-    requires { ⌜ place + 4 ≤ length (now bytes) ⌝ }
-    ensures { λ r. ⌜ r ≡ four (now (bytes .entry)) place ⌝ }
-{
-    u32::from_be_bytes([
-        bytes[place],
-        bytes[place + 1],
-        bytes[place + 2],
-        bytes[place + 3],
-    ])
-}
-
-// The port that begins at a place, its highest byte first.
-fn read_port(bytes: &[u8], place: usize) -> u16
-    requires { ⌜ place + 2 ≤ length (now bytes) ⌝ }
-    ensures { λ r. ⌜ r ≡ two (now (bytes .entry)) place ⌝ }
-{
-    u16::from_be_bytes([bytes[place], bytes[place + 1]])
-}
 
 // The header that begins at a place.
 fn read_header(bytes: &[u8], place: usize) -> Header
@@ -38,12 +18,12 @@ fn read_header(bytes: &[u8], place: usize) -> Header
 {
     Header {
         addresses: Sides {
-            source: read_address(bytes, place),
-            destination: read_address(bytes, place + 4),
+            source: number_of_four(bytes, place),
+            destination: number_of_four(bytes, place + 4),
         },
         ports: Sides {
-            source: read_port(bytes, place + 8),
-            destination: read_port(bytes, place + 10),
+            source: number_of_two(bytes, place + 8),
+            destination: number_of_two(bytes, place + 10),
         },
         protocol: bytes[place + 12],
     }

@@ -4,7 +4,7 @@ ghost use mathlib.Core.Path.{_≡_};
 ghost use Prim.Native.Nat.{_+_, _*_, _≤_};
 ghost use lib.ListN.{length, drop};
 ghost use Rattle.blocks.specs.Blocks.{two-bytes, four-bytes, header-bytes, block-bytes};
-ghost use Rattle.blocks.specs.Output.{put-at};
+ghost use Rattle.bytes.specs.Output.{put-at};
 use crate::HEADER_BYTES;
 use packets::header::Header;
 

@@ -1,12 +1,9 @@
 -- Bytes that are written into the output.
 use mathlib.Core.Path.{_≡_}
-use mathlib.Core.List.{List, _++_}
+use mathlib.Core.List.{List}
 use Prim.Native.Nat.{ℕ, _+_}
-use lib.ListN.{length, take, drop}
-
--- the output after these bytes were written from a place on
-unfoldable pub put-at : ℕ → List ℕ → List ℕ → List ℕ
-put-at place bytes out = take place out ++ (bytes ++ drop (place + length bytes) out)
+use lib.ListN.{length}
+use Rattle.bytes.specs.Output.{put-at}
 
 -- these bytes were written from a place on, and the next place follows them
 pub record Put (at : ℕ) (bytes before after : List ℕ) (place : ℕ) : Type 0 where

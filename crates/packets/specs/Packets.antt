@@ -6,7 +6,7 @@ use lib.Dec.{eqb, ltb}
 use lib.ListN.{length, take, drop}
 use Rattle.std.specs.declared.option.Option.{Option}
 use Rattle.fields.specs.Refusals.{Test, first}
-use Rattle.packets.specs.Bytes.{byte, two, four}
+use Rattle.bytes.specs.Numbers.{byte, two, four}
 use Rattle.packets.specs.declared.header.Header.{Header}
 use Rattle.packets.specs.declared.packet.Packet.{Packet}
 use Rattle.packets.specs.declared.packet.Rest.{Rest}

@@ -4,7 +4,7 @@ ghost use Rattle.std.specs.Vec.{made};
 ghost use Rattle.fields.specs.Refusals.{refusal};
 ghost use Rattle.packets.specs.Layouts.{Laid-out, with-ports};
 ghost use Rattle.packets.specs.Packets.{packet-refusal};
-use crate::bytes;
+use bytes::number_of_two;
 use fields::refusal::Refusal;
 
 // The protocols that have ports.
@@ -56,8 +56,8 @@ pub(crate) fn layout_of(bytes: &[u8]) -> Result<Layout, Refusal>
     }
     let layout = Layout {
         start: 4 * usize::from(words),
-        total: usize::from(bytes::number_of_two(bytes, 2)),
-        offset: bytes::number_of_two(bytes, 6) % 8192,
+        total: usize::from(number_of_two(bytes, 2)),
+        offset: number_of_two(bytes, 6) % 8192,
         protocol: bytes[9],
     };
     if layout.total < layout.start || bytes.len() < layout.total {

@@ -1,5 +1,4 @@
 // IPv4 packets (RFC 791): the header that a classifier is asked, and what follows it.
-mod bytes;
 pub mod header;
 mod layout;
 pub mod packet;

@@ -4,7 +4,6 @@ ghost use Rattle.std.specs.Vec.{made};
 ghost use Rattle.fields.specs.Refusals.{refusal};
 ghost use Rattle.packets.specs.Layouts.{Laid-out, ports-in, Rest-of};
 ghost use Rattle.packets.specs.Packets.{packet-refusal, packet-shown, shown};
-use crate::bytes;
 use crate::header::Header;
 use crate::layout;
 use crate::layout::Layout;
@@ -12,6 +11,8 @@ use crate::layout::TCP;
 use crate::layout::UDP;
 use crate::packet::Packet;
 use crate::packet::Rest;
+use bytes::number_of_four;
+use bytes::number_of_two;
 use fields::refusal::Refusal;
 use fields::sides::Sides;
 
@@ -22,8 +23,8 @@ fn read_ports(bytes: &[u8], layout: Layout) -> Sides<u16>
 {
     if layout.has_ports() {
         Sides {
-            source: bytes::number_of_two(bytes, layout.start),
-            destination: bytes::number_of_two(bytes, layout.start + 2),
+            source: number_of_two(bytes, layout.start),
+            destination: number_of_two(bytes, layout.start + 2),
         }
     } else {
         Sides {
@@ -59,8 +60,8 @@ pub fn read_packet(bytes: &[u8]) -> Result<Packet<'_>, Refusal>
     let layout = layout::layout_of(bytes)?;
     let header = Header {
         addresses: Sides {
-            source: bytes::number_of_four(bytes, 12),
-            destination: bytes::number_of_four(bytes, 16),
+            source: number_of_four(bytes, 12),
+            destination: number_of_four(bytes, 16),
         },
         ports: read_ports(bytes, layout),
         protocol: layout.protocol,

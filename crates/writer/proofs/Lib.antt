@@ -1,4 +1,3 @@
 pub mod Patterns
 pub mod Rows
-pub mod Joins
 pub mod Sheets

@@ -16,8 +16,8 @@ use Rattle.sheets.specs.Words.{word-bytes}
 use Rattle.sheets.specs.Format.{rule-words, sheet-words, sheet-bytes}
 use Rattle.sheets.specs.Writing.{write-refusal}
 use Rattle.sheets.specs.declared.row.RuleRow.{RuleRow}
-use Rattle.writer.specs.Output.{rule-bytes}
-use Rattle.writer.proofs.Joins.{length-joined}
+use Rattle.writer.specs.RuleBytes.{rule-bytes}
+use Rattle.bytes.proofs.Puts.{length-joined}
 
 abbrev end : List RuleRow → ℕ
 end rs = 6 * 2 ^ 29 + length rs

@@ -6,7 +6,8 @@ ghost use Rattle.std.specs.shelf.Lists.{All, joined};
 ghost use Rattle.sheets.specs.Format.{sheet-bytes};
 ghost use Rattle.sheets.specs.Words.{word-bytes};
 ghost use Rattle.writer.specs.Fitting.{Fitting};
-ghost use Rattle.writer.specs.Output.{put-at, rule-bytes};
+ghost use Rattle.bytes.specs.Output.{put-at};
+ghost use Rattle.writer.specs.RuleBytes.{rule-bytes};
 use crate::words;
 use sheets::row::RuleRow;
 

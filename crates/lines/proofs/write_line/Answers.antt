@@ -4,7 +4,7 @@ use lib.ListN.{length}
 use Rattle.std.proofs.shelf.Tests.{le-ltb}
 use Rattle.std.specs.shelf.Lists.{joined}
 use Rattle.lines.specs.Pieces.{piece-bytes}
-use Rattle.lines.proofs.Puts.{put-front}
+use Rattle.bytes.proofs.Puts.{put-front}
 use Rattle.lines.proofs.write_line.Needs as need
 
 pub returns-in-Some : need.returns-in-Some

@@ -4,7 +4,7 @@ use native.Mathlib.Omega.{arith}
 use lib.ListN.{length}
 use Rattle.std.specs.declared.option.Option.{Option}
 use Rattle.sheets.specs.Writing.{written}
-use Rattle.writer.proofs.Joins.{put-front}
+use Rattle.bytes.proofs.Puts.{put-front}
 use Rattle.writer.proofs.Sheets.{length-sheet, roomy, narrow}
 use Rattle.writer.proofs.write_sheet.Needs as need
 

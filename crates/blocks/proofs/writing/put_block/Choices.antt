@@ -1,7 +1,7 @@
 use mathlib.Core.Path.{_≡_}
 use lib.ListN.{take}
 use Rattle.blocks.specs.Blocks.{block-bytes}
-use Rattle.blocks.specs.Output.{put-at}
+use Rattle.bytes.specs.Output.{put-at}
 use Rattle.blocks.proofs.writing.put_block.Given as given
 
 abbrev pub Inv-loop-i : given.InvT-loop-i

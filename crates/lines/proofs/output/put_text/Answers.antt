@@ -3,7 +3,7 @@ use Prim.Native.Nat.{_+_, _-_}
 use native.Mathlib.Omega.{arith}
 use lib.ListN.{length}
 use Rattle.std.proofs.shelf.Parts.{putMid-paste}
-use Rattle.lines.proofs.Puts.{put-is-paste}
+use Rattle.bytes.proofs.Puts.{put-is-paste}
 use Rattle.lines.proofs.output.put_text.Needs as need
 
 pub returns : need.returns

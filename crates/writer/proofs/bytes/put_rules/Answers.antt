@@ -7,8 +7,9 @@ use Rattle.std.proofs.shelf.Elements.{all-getD}
 use Rattle.std.specs.shelf.Lists.{joined}
 use Rattle.sheets.specs.Words.{word-bytes}
 use Rattle.writer.specs.Fitting.{Fitting}
-use Rattle.writer.specs.Output.{put-at, rule-bytes}
-use Rattle.writer.proofs.Joins.{put-none, put-more, put-all}
+use Rattle.bytes.specs.Output.{put-at}
+use Rattle.writer.specs.RuleBytes.{rule-bytes}
+use Rattle.bytes.proofs.Puts.{put-none, put-more, put-all}
 use Rattle.writer.proofs.bytes.put_rules.Needs as need
 
 pub loop-i-holds : need.loop-i-holds

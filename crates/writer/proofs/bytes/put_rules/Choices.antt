@@ -1,7 +1,8 @@
 use mathlib.Core.Path.{_≡_}
 use lib.ListN.{take}
 use Rattle.std.specs.shelf.Lists.{joined}
-use Rattle.writer.specs.Output.{put-at, rule-bytes}
+use Rattle.bytes.specs.Output.{put-at}
+use Rattle.writer.specs.RuleBytes.{rule-bytes}
 use Rattle.writer.proofs.bytes.put_rules.Given as given
 
 abbrev pub Inv-loop-i : given.InvT-loop-i

@@ -4,8 +4,8 @@ use native.Mathlib.Omega.{arith}
 use lib.ListN.{length}
 use Rattle.std.specs.shelf.Lists.{joined}
 use Rattle.sheets.specs.Words.{word-bytes}
-use Rattle.writer.specs.Output.{rule-bytes}
-use Rattle.writer.proofs.Joins.{put-next, length-joined}
+use Rattle.writer.specs.RuleBytes.{rule-bytes}
+use Rattle.bytes.proofs.Puts.{put-next, length-joined}
 use Rattle.writer.proofs.Sheets.{sheet-by-rule}
 use Rattle.writer.proofs.bytes.put_sheet.Needs as need
 

@@ -4,7 +4,7 @@ use native.Mathlib.Nat.{mod-eq-of-lt}
 use native.Mathlib.Omega.{arith}
 use Rattle.std.proofs.shelf.Parts.{putMid-paste}
 use Rattle.sheets.specs.Words.{word-bytes}
-use Rattle.writer.proofs.Joins.{put-is-paste}
+use Rattle.bytes.proofs.Puts.{put-is-paste}
 use Rattle.writer.proofs.bytes.put_word.Needs as need
 
 pub returns : need.returns

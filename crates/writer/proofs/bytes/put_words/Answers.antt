@@ -1,7 +1,7 @@
 use mathlib.Core.Path.{refl, sym, _∙_}
 use native.Mathlib.Omega.{arith}
 use Rattle.sheets.specs.Words.{word-bytes}
-use Rattle.writer.proofs.Joins.{put-none, put-more, put-all}
+use Rattle.bytes.proofs.Puts.{put-none, put-more, put-all}
 use Rattle.writer.proofs.bytes.put_words.Needs as need
 
 pub loop-i-holds : need.loop-i-holds

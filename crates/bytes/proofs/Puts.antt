@@ -8,7 +8,7 @@ use lib.ListN.{length, getD, take, drop}
 use Rattle.std.specs.shelf.Lists.{joined, paste}
 use Rattle.std.proofs.shelf.Lists.{length-append, length-take-le, take-all, take-more, joined-more}
 use Rattle.std.proofs.shelf.Edits.{paste-none, paste-all, paste-paste}
-use Rattle.writer.specs.Output.{put-at}
+use Rattle.bytes.specs.Output.{put-at}
 
 pub put-is-paste : (at : ℕ) (bs out : List ℕ) → put-at at bs out ≡ paste out at bs (length bs)
 unfolding put-at
