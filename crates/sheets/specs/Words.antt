@@ -44,6 +44,13 @@ side-due (Lower s) = side-of s
 side-due (Port s) = side-of s
 side-due Protocol = 0
 
+-- the bits of its number
+abbrev pub bits-due : Part → ℕ
+bits-due (Upper s) = 16
+bits-due (Lower s) = 16
+bits-due (Port s) = 16
+bits-due Protocol = 8
+
 -- the word of a part with a length and a number
 abbrev pub word : Part → ℕ → ℕ → ℕ
 word p l n = kind-due p * 2 ^ 29 + side-due p * 2 ^ 28 + l * 2 ^ 22 + n
