@@ -150,7 +150,11 @@ fn ends() -> Result<(), Fail> {
     let mut list = [UNTOUCHED; 1];
     match read_sheet(&bytes[0..68], &mut list) {
         Ok(_) => return Err(Fail::new("accepted")),
-        Err(fault) => check_eq(fault.refusal.number(), 9)?,
+        Err(fault) => {
+            check_eq(fault.refusal.number(), 9)?;
+            check_eq(fault.place, 0)?;
+            check_eq(fault.layer, Layer::Sheet)?;
+        }
     }
     check_eq(list[0], UNTOUCHED)?;
     check(read_sheet(&[0xC0, 0, 0, 0], &mut []).is_ok())
