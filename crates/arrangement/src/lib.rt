@@ -1,4 +1,6 @@
 // Five finders of five independent kinds, a key table and a screen under one value.
+#![tactic(auto)]
+
 ghost use Rattle.std.specs.Prelude.{◌≡◌, ◌+◌, min, if◌then◌else◌};
 ghost use Rattle.finders.specs.Finding.{label_place, best_label};
 ghost use Rattle.arrangement.specs.Lookups.{or_whole_lem, key_of, screened};

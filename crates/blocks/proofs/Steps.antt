@@ -7,7 +7,7 @@ use Rattle.std.proofs.lemmas.List.{append_assoc, length-append, length-map, leng
 use Rattle.fields.specs.Lists.{any}
 use Rattle.packets.specs.declared.header.Header.{Header}
 use Rattle.blocks.specs.Blocks.{header_bytes, block_bytes, header_at, spoiled, starts}
-use Rattle.bytes.specs.Output.{put_at}
+use Rattle.octets.specs.Output.{put_at}
 use Rattle.blocks.proofs.Headers.{starts_from, length_block}
 
 module _ (bs : List ℕ) (i : ℕ) where

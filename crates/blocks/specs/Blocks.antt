@@ -3,7 +3,7 @@ use Rattle.std.specs.Prelude.{ℕ, ◌+◌, ◌*◌, ◌/◌, ◌%◌, ◌^◌, 
 use Rattle.std.specs.List.{range_with_len, flat_map}
 use Rattle.fields.specs.Refusals.{Test, first}
 use Rattle.fields.specs.Lists.{any}
-use Rattle.bytes.specs.Numbers.{byte, two, four}
+use Rattle.octets.specs.Numbers.{byte, two, four}
 use Rattle.packets.specs.declared.header.Header.{Header}
 
 -- ---- the format: both addresses, both ports, source first, the protocol, three bytes 0; the highest byte first

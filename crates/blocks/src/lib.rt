@@ -1,4 +1,6 @@
 // Header blocks: headers in bytes, sixteen to each.
+#![tactic(auto)]
+
 ghost use Rattle.std.specs.Prelude.{◌≡◌, ◌*◌, ◌/◌, length, IfOk};
 ghost use Rattle.fields.specs.Refusals.{refusal};
 ghost use Rattle.blocks.specs.Laws.{WrittenIsRead, ReadIsWritten};

@@ -4,7 +4,7 @@ ghost use Rattle.fields.specs.Lists.{any};
 ghost use Rattle.blocks.specs.Blocks.{header_at, headers_in, spoiled, starts};
 
 use crate::HEADER_BYTES;
-use bytes::{number_of_four, number_of_two};
+use octets::{number_of_four, number_of_two};
 use fields::sides::Sides;
 use packets::header::Header;
 

@@ -1,7 +1,7 @@
 // Headers into the bytes of a block.
 ghost use Rattle.std.specs.Prelude.{◌≡◌, ◌+◌, ◌*◌, ◌≤◌, ◌++◌, length, drop};
 ghost use Rattle.blocks.specs.Blocks.{two_bytes, four_bytes, header_bytes, block_bytes};
-ghost use Rattle.bytes.specs.Output.{put_at};
+ghost use Rattle.octets.specs.Output.{put_at};
 
 use crate::HEADER_BYTES;
 use packets::header::Header;

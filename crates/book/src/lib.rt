@@ -1,4 +1,6 @@
 // The plain book, which tells from the calls alone what an engine owes, and the worked examples.
+#![tactic(auto)]
+
 ghost use Rattle.book.specs.Worked.{Worked};
 
 pub mod call;

@@ -1,5 +1,7 @@
 // Lists many sheets and packets, most of them damaged. A file of cases has for each its length in four bytes, the highest first, and then its
 // bytes.
+#![tactic(auto)]
+
 use fields::refusal::Refusal;
 use files::print_text;
 use listing::sheet_text;

@@ -1,4 +1,6 @@
 // The kinds of field that a rule speaks of, what their patterns mean, and the refusals of every call.
+#![tactic(auto)]
+
 pub mod bits;
 mod checks;
 pub mod kind;

@@ -1,4 +1,6 @@
 // Files that programs read.
+#![tactic(auto)]
+
 ghost use Rattle.std.specs.Prelude.{◌≤◌, IfOk, vec_len};
 
 use fields::refusal::Refusal;

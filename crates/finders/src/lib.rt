@@ -1,4 +1,6 @@
 // Finders: what finds the most specific of the patterns that it holds.
+#![tactic(auto)]
+
 pub mod finder;
 pub mod laws;
 pub mod scan;

@@ -1,4 +1,6 @@
 // The grouping of rules: its definitions, and what holds of them.
+#![tactic(auto)]
+
 ghost use Rattle.groups.specs.ByNumber.{IsByNumber};
 ghost use Rattle.groups.specs.Theorems.{LevelsTell, OneTuple, EnoughSubsets, KeyTells, TotalCounts, PlaceByPlace, Carries, OfFive};
 

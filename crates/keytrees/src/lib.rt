@@ -1,3 +1,5 @@
 // A key table that is a tree over the numbers of a key.
+#![tactic(auto)]
+
 pub mod keytree;
 mod tree;

@@ -1,7 +1,7 @@
 -- Bytes written one after another, with the next place.
 use Rattle.std.proofs.Common.{◌≡◌, ℕ, ◌+◌, ◌≤◌, List, [], ◌++◌, length, sym, arith}
 use Rattle.std.proofs.lemmas.List.{length-append}
-use Rattle.bytes.proofs.Puts as puts
+use Rattle.octets.proofs.Puts as puts
 use Rattle.lines.specs.Output.{Put}
 
 pub put_none : (at : ℕ) (out : List ℕ) → Put at [] out out at

@@ -1,4 +1,6 @@
 // Output lines.
+#![tactic(auto)]
+
 ghost use Rattle.std.specs.Prelude.{◌≡◌, length, IfOk};
 ghost use Rattle.std.specs.List.{flat_map};
 ghost use Rattle.fields.specs.Refusals.{code, refusal as refusal-of};

@@ -1,4 +1,6 @@
 // From the bytes of a file to what a program prints.
+#![tactic(auto)]
+
 ghost use Rattle.std.specs.Prelude.{◌≡◌, IfOk, IfErr, string_bytes};
 ghost use Rattle.fields.specs.declared.refusal.Refusal.TheVariants.{Memory};
 ghost use Rattle.listing.specs.Listing.{sheet_text_lem};

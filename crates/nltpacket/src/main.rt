@@ -1,4 +1,6 @@
 // Shows the header of the packet in `packet.bin` of the current folder and what follows it, or the refusal.
+#![tactic(auto)]
+
 use files::{file_bytes, print_text};
 use packetlisting::packet_text;
 

@@ -1,4 +1,6 @@
 // Lists the rule sheet `rules.bin` of the current folder, or says what is wrong with it.
+#![tactic(auto)]
+
 use files::{file_bytes, print_text};
 use listing::sheet_text;
 

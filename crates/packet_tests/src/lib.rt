@@ -1,4 +1,6 @@
 // Tests on worked examples: packets, header blocks and lines.
+#![tactic(auto)]
+
 #[cfg(test)]
 mod blocks_there_and_back;
 #[cfg(test)]

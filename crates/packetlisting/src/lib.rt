@@ -1,4 +1,6 @@
 // From the bytes of a packet to what a program prints of it.
+#![tactic(auto)]
+
 ghost use Rattle.std.specs.Prelude.{◌≡◌, length, IfOk, IfErr, Some, string_bytes};
 ghost use Rattle.fields.specs.Refusals.{code};
 ghost use Rattle.fields.specs.declared.refusal.Refusal.TheVariants.{Memory};

@@ -4,7 +4,7 @@ ghost use Rattle.fields.specs.Refusals.{refusal};
 ghost use Rattle.packets.specs.Layouts.{Laid_out, with_ports};
 ghost use Rattle.packets.specs.Packets.{packet_refusal};
 
-use bytes::number_of_two;
+use octets::number_of_two;
 use fields::refusal::Refusal;
 
 // The protocols that have ports.

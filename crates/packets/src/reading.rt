@@ -8,7 +8,7 @@ use crate::header::Header;
 use crate::layout;
 use crate::layout::{Layout, TCP, UDP};
 use crate::packet::{Packet, Rest};
-use bytes::{number_of_four, number_of_two};
+use octets::{number_of_four, number_of_two};
 use fields::refusal::Refusal;
 use fields::sides::Sides;
 

@@ -1,4 +1,6 @@
 // Sheets there and back again.
+#![tactic(auto)]
+
 ghost use Rattle.std.specs.Prelude.{◌≡◌, length, IfOk};
 ghost use Rattle.fields.specs.Refusals.{refusal};
 ghost use Rattle.sheets.specs.Reading.{sheet_read};

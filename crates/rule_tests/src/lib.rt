@@ -1,4 +1,6 @@
 // Tests on worked examples: kinds, levels, and sheets.
+#![tactic(auto)]
+
 #[cfg(test)]
 mod kinds;
 #[cfg(test)]

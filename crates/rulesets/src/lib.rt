@@ -1,3 +1,5 @@
 // Sets of rule numbers.
+#![tactic(auto)]
+
 mod ops;
 pub mod ruleset;

@@ -1,3 +1,5 @@
 // The table of the standing rules.
+#![tactic(auto)]
+
 mod changes;
 pub mod table;

@@ -1,4 +1,6 @@
 // The laws of the sheet format.
+#![tactic(auto)]
+
 ghost use Rattle.sheetlaws.specs.Laws.{WrittenIsRead, ReadIsWritten, StopsFirst};
 
 // A written sheet reads back as the same rules.

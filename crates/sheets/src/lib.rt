@@ -1,4 +1,6 @@
 // The format of a rule sheet: rules as plain numbers, the words that write them, and the faults of a sheet.
+#![tactic(auto)]
+
 ghost use Rattle.sheets.specs.Example.{Worked};
 
 pub mod fault;

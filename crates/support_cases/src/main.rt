@@ -1,4 +1,6 @@
 // Both implementations of every support on the same calls, which are drawn from fixed seeds: all answers have to be the same.
+#![tactic(auto)]
+
 use crate::finder_calls::{Compared, Drawn};
 use crate::screen_rounds::{Round, Screened, run_round};
 use fields::kind::FieldKind;

@@ -1,4 +1,6 @@
 // Rules and faults as people read them.
+#![tactic(auto)]
+
 ghost use Rattle.std.specs.Prelude.{Some};
 ghost use Rattle.fields.specs.Refusals.{code};
 ghost use Rattle.texts.specs.Text.{address_text, pattern_text, rule_text, layer_text, fault_text};

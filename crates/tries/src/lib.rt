@@ -1,4 +1,6 @@
 // A bit trie: a finder for patterns that are the first bits of values.
+#![tactic(auto)]
+
 pub mod node;
 pub mod nodes;
 pub mod path;

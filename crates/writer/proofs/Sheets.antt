@@ -9,7 +9,7 @@ use Rattle.sheets.specs.Format.{rule_words, sheet_words, sheet_bytes_lem}
 use Rattle.sheets.specs.Writing.{write_refusal}
 use Rattle.sheets.specs.declared.row.RuleRow.{RuleRow}
 use Rattle.writer.specs.RuleBytes.{rule_bytes}
-use Rattle.bytes.proofs.Puts.{length_joined}
+use Rattle.octets.proofs.Puts.{length_joined}
 
 abbrev end : List RuleRow → ℕ
 end rs = 6 * 2 ^ 29 + length rs

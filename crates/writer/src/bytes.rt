@@ -4,7 +4,7 @@ ghost use Rattle.std.specs.List.{flat_map, AllByRecursion as All};
 ghost use Rattle.sheets.specs.Format.{sheet_bytes_lem};
 ghost use Rattle.sheets.specs.Words.{word_bytes};
 ghost use Rattle.writer.specs.Fitting.{Fitting};
-ghost use Rattle.bytes.specs.Output.{put_at};
+ghost use Rattle.octets.specs.Output.{put_at};
 ghost use Rattle.writer.specs.RuleBytes.{rule_bytes};
 
 use crate::words;

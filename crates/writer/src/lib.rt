@@ -1,4 +1,6 @@
 // Rule sheets to bytes.
+#![tactic(auto)]
+
 ghost use Rattle.std.specs.Prelude.{◌≡◌, length, IfOk};
 ghost use Rattle.fields.specs.Refusals.{refusal};
 ghost use Rattle.sheets.specs.Format.{sheet_bytes_lem};

@@ -2,7 +2,7 @@ use Rattle.std.proofs.Common.{length, refl, ◌∙◌, arith}
 use Rattle.std.proofs.lemmas.Bool.{le-ltb}
 use Rattle.std.specs.List.{flat_map}
 use Rattle.lines.specs.Pieces.{piece_bytes}
-use Rattle.bytes.proofs.Puts.{put_front}
+use Rattle.octets.proofs.Puts.{put_front}
 use Rattle.lines.proofs.write_line.Goals as goal
 
 pub returns-in-Some : goal.returns-in-Some

@@ -1,6 +1,6 @@
 use Rattle.std.proofs.Common.{ℕ, length, Option, ap, ◌∙◌, arith}
 use Rattle.sheets.specs.Writing.{written}
-use Rattle.bytes.proofs.Puts.{put_front}
+use Rattle.octets.proofs.Puts.{put_front}
 use Rattle.writer.proofs.Sheets.{length_sheet, roomy, narrow}
 use Rattle.writer.proofs.write_sheet.Goals as goal
 

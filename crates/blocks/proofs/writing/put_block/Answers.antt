@@ -1,9 +1,9 @@
 use Rattle.std.proofs.Common.{ℕ, ◌*◌, ◌++◌, drop, sym, refl, ap, ◌∙◌, arith}
 use Rattle.std.proofs.lemmas.List.{take_all}
 use Rattle.blocks.specs.Blocks.{header_bytes, block_bytes}
-use Rattle.bytes.specs.Output.{put_at}
+use Rattle.octets.specs.Output.{put_at}
 use Rattle.blocks.proofs.Headers.{length_block}
-use Rattle.bytes.proofs.Puts.{put_none, put_more, put_front}
+use Rattle.octets.proofs.Puts.{put_none, put_more, put_front}
 use Rattle.blocks.proofs.writing.put_block.Goals as goal
 
 pub loop-i-init : goal.loop-i-init

@@ -1,6 +1,6 @@
 use Rattle.std.proofs.Common.{◌≡◌, take}
 use Rattle.blocks.specs.Blocks.{block_bytes}
-use Rattle.bytes.specs.Output.{put_at}
+use Rattle.octets.specs.Output.{put_at}
 use Rattle.blocks.proofs.writing.put_block.Given as goal
 
 abbrev pub invariant-loop-i : goal.invariant-loop-i

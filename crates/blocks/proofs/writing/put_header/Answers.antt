@@ -1,7 +1,7 @@
 use Rattle.std.proofs.Common.{◌+◌, ◌-◌, sym, refl, ◌∙◌, arith}
 use Rattle.std.proofs.lemmas.Slice.{put_mid-paste}
 use Rattle.blocks.specs.Blocks.{header_bytes}
-use Rattle.bytes.proofs.Puts.{put_is_paste}
+use Rattle.octets.proofs.Puts.{put_is_paste}
 use Rattle.blocks.proofs.writing.put_header.Goals as goal
 
 pub returns : goal.returns

@@ -1,6 +1,6 @@
 use Rattle.std.proofs.Common.{◌+◌, ◌-◌, length, sym, refl, ◌∙◌, arith}
 use Rattle.std.proofs.lemmas.Slice.{put_mid-paste}
-use Rattle.bytes.proofs.Puts.{put_is_paste}
+use Rattle.octets.proofs.Puts.{put_is_paste}
 use Rattle.lines.proofs.output.put_text.Goals as goal
 
 pub returns : goal.returns

@@ -3,9 +3,9 @@ use Rattle.std.proofs.ByRecursion.{All-get_or}
 use Rattle.std.specs.List.{flat_map}
 use Rattle.sheets.specs.Words.{word_bytes}
 use Rattle.writer.specs.Fitting.{Fitting}
-use Rattle.bytes.specs.Output.{put_at}
+use Rattle.octets.specs.Output.{put_at}
 use Rattle.writer.specs.RuleBytes.{rule_bytes}
-use Rattle.bytes.proofs.Puts.{put_none, put_more, put_all}
+use Rattle.octets.proofs.Puts.{put_none, put_more, put_all}
 use Rattle.writer.proofs.bytes.put_rules.Goals as goal
 
 pub loop-i-init : goal.loop-i-init

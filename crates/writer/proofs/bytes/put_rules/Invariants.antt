@@ -1,6 +1,6 @@
 use Rattle.std.proofs.Common.{◌≡◌, take}
 use Rattle.std.specs.List.{flat_map}
-use Rattle.bytes.specs.Output.{put_at}
+use Rattle.octets.specs.Output.{put_at}
 use Rattle.writer.specs.RuleBytes.{rule_bytes}
 use Rattle.writer.proofs.bytes.put_rules.Given as goal
 

@@ -2,7 +2,7 @@ use Rattle.std.proofs.Common.{◌+◌, ◌*◌, ◌^◌, length, refl, arith}
 use Rattle.std.specs.List.{flat_map}
 use Rattle.sheets.specs.Words.{word_bytes}
 use Rattle.writer.specs.RuleBytes.{rule_bytes}
-use Rattle.bytes.proofs.Puts.{put_next, length_joined}
+use Rattle.octets.proofs.Puts.{put_next, length_joined}
 use Rattle.writer.proofs.Sheets.{sheet_by_rule}
 use Rattle.writer.proofs.bytes.put_sheet.Goals as goal
 

@@ -1,7 +1,7 @@
 use Rattle.std.proofs.Common.{◌≡◌, ◌+◌, ◌-◌, ◌/◌, ◌%◌, ◌^◌, sym, refl, ◌∙◌, mod-eq_of_lt, arith}
 use Rattle.std.proofs.lemmas.Slice.{put_mid-paste}
 use Rattle.sheets.specs.Words.{word_bytes}
-use Rattle.bytes.proofs.Puts.{put_is_paste}
+use Rattle.octets.proofs.Puts.{put_is_paste}
 use Rattle.writer.proofs.bytes.put_word.Goals as goal
 
 pub returns : goal.returns

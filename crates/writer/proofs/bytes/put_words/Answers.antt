@@ -1,6 +1,6 @@
 use Rattle.std.proofs.Common.{sym, refl, ◌∙◌, arith}
 use Rattle.sheets.specs.Words.{word_bytes}
-use Rattle.bytes.proofs.Puts.{put_none, put_more, put_all}
+use Rattle.octets.proofs.Puts.{put_none, put_more, put_all}
 use Rattle.writer.proofs.bytes.put_words.Goals as goal
 
 pub loop-i-init : goal.loop-i-init

@@ -1,7 +1,7 @@
 use Rattle.std.proofs.Common.{◌≡◌, take}
 use Rattle.std.specs.List.{flat_map}
 use Rattle.sheets.specs.Words.{word_bytes}
-use Rattle.bytes.specs.Output.{put_at}
+use Rattle.octets.specs.Output.{put_at}
 use Rattle.writer.proofs.bytes.put_words.Given as goal
 
 abbrev pub invariant-loop-i : goal.invariant-loop-i

@@ -1,6 +1,8 @@
 // Numbers in bytes, the highest byte first.
+#![tactic(auto)]
+
 ghost use Rattle.std.specs.Prelude.{◌≡◌};
-ghost use Rattle.bytes.specs.Numbers.{byte, two, four};
+ghost use Rattle.octets.specs.Numbers.{byte, two, four};
 
 // The byte at a place, or 0 past the end.
 pub fn byte_at(bytes: &[u8], place: usize) -> u8

@@ -4,7 +4,7 @@ use Rattle.std.specs.List.{flat_map}
 use lib.Seq.{paste}
 use Rattle.std.proofs.lemmas.List.{length-append, length-take-le, take_all, take_more, flat_map_more}
 use Rattle.std.proofs.lemmas.List.Edits.{paste_none, paste_all, paste-paste}
-use Rattle.bytes.specs.Output.{put_at}
+use Rattle.octets.specs.Output.{put_at}
 
 pub put_is_paste : (at : ℕ) (bs out : List ℕ) → put_at at bs out ≡ paste out at bs (length bs)
 unfolding put_at

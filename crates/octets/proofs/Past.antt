@@ -1,7 +1,7 @@
 -- Past the end there is nothing but 0.
 use Rattle.std.proofs.Common.{◌≡◌, ℕ, ◌+◌, ◌*◌, ◌≤◌, List, length, sym, ap, ◌∙◌, arith}
 use Rattle.std.proofs.lemmas.List.{get_or_past}
-use Rattle.bytes.specs.Numbers.{two, four}
+use Rattle.octets.specs.Numbers.{two, four}
 
 pub two_past : (bs : List ℕ) (i : ℕ) → length bs ≤ i → 0 ≡ two bs i
 two_past bs i h = omega (arith, get_or_past bs i 0 h, get_or_past bs (i + 1) 0 (omega arith))
