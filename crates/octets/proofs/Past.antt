@@ -1,5 +1,5 @@
 -- Past the end there is nothing but 0.
-use Rattle.std.proofs.Common.{◌≡◌, ℕ, ◌+◌, ◌*◌, ◌≤◌, List, length, sym, ap, ◌∙◌, arith}
+use Rattle.std.proofs.Common.{◌≡◌, ℕ, ◌+◌, ◌≤◌, List, length, arith}
 use Rattle.std.proofs.lemmas.List.{get_or_past}
 use Rattle.octets.specs.Numbers.{two, four}
 

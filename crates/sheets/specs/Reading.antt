@@ -1,8 +1,8 @@
 -- What a sheet of any bytes is read as: its rules, or its first fault.
-use Rattle.std.specs.Prelude.{◌≡◌, ℕ, zero, suc, ◌+◌, ◌-◌, ◌*◌, ◌/◌, ◌%◌, ◌^◌, Bool, true, false, cond, not, ◌&&◌, ◌||◌, List, [], ◌∷◌, ◌++◌, map, length, drop, is_some, Some, None, Ok, Err, Option, Result, ◌==◌, nat_le, nat_lt, slice_index, slice_index_or}
+use Rattle.std.specs.Prelude.{◌≡◌, ℕ, zero, suc, ◌+◌, ◌-◌, ◌*◌, ◌/◌, ◌%◌, ◌^◌, Bool, false, cond, not, ◌&&◌, ◌||◌, List, [], ◌∷◌, ◌++◌, map, length, drop, is_some, Some, None, Ok, Err, Option, Result, ◌==◌, nat_le, nat_lt, slice_index, slice_index_or}
 use Rattle.std.specs.List.{range_with_len}
 use Rattle.fields.specs.Lengths.{has, clean}
-use Rattle.fields.specs.Refusals.{Test, first, code}
+use Rattle.fields.specs.Refusals.{first, code}
 use Rattle.sheets.specs.Faults.{layer_of}
 use Rattle.sheets.specs.Words.{kind, rest, side, size, low, kind_due_lem, side_due, word_at}
 use Rattle.sheets.specs.declared.part.Side.TheVariants.{Source, Destination}

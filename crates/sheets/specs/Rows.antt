@@ -1,6 +1,6 @@
 -- When a row of plain numbers is a rule, and when rows are a rule list: the tests of one rule after another.
 use Rattle.std.specs.Prelude.{ℕ, ◌+◌, Bool, not, ◌||◌, List, [], ◌∷◌, Some, None, Option, nat_lt}
-use Rattle.fields.specs.Refusals.{Test, first}
+use Rattle.fields.specs.Refusals.{first}
 use Rattle.fields.specs.Lengths.{has, clean}
 use Rattle.sheets.specs.declared.row.PatternRow.{PatternRow}
 use Rattle.sheets.specs.declared.row.RuleRow.{RuleRow}

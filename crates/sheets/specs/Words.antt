@@ -1,5 +1,5 @@
 -- The words of a sheet. Bit 0 is the lowest; the kind is in bits 31-29.
-use Rattle.std.specs.Prelude.{ℕ, zero, suc, ◌+◌, ◌-◌, ◌*◌, ◌/◌, ◌%◌, ◌^◌, List, [], ◌∷◌, ◌++◌, length, slice_index}
+use Rattle.std.specs.Prelude.{ℕ, ◌+◌, ◌*◌, ◌/◌, ◌%◌, ◌^◌, List, [], ◌∷◌, slice_index}
 use Rattle.sheets.specs.declared.part.Side.{Side}
 use Rattle.sheets.specs.declared.part.Side.TheVariants.{Source, Destination}
 use Rattle.sheets.specs.declared.part.Part.{Part}

@@ -1,4 +1,4 @@
-use Rattle.std.proofs.Common.{◌≡◌, sym, ◌∙◌, arith, pow_mono}
+use Rattle.std.proofs.Common.{sym, ◌∙◌, arith, pow_mono}
 use Rattle.std.proofs.lemmas.Bool.{le-leb, lt-ltb}
 use Rattle.fields.proofs.checks.below.Goals as goal
 

@@ -1,4 +1,4 @@
-use Rattle.std.proofs.Common.{◌≡◌, ◌-◌, ◌≤◌, sym, arith, pow_mono}
+use Rattle.std.proofs.Common.{◌-◌, ◌≤◌, sym, arith, pow_mono}
 use native.Mathlib.Nat.{div-eq_of_lt}
 use Rattle.fields.proofs.checks.first_bits.Goals as goal
 

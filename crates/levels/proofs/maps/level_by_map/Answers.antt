@@ -4,8 +4,8 @@ use Rattle.std.proofs.ByRecursion.{has_get_or}
 use Rattle.levels.proofs.Layers.{layered_from, layered_level}
 use Rattle.levels.proofs.maps.level_by_map.Goals as goal
 
-pub overflow-cast-result : goal.overflow-cast-result
-overflow-cast-result g c =
+pub overflow_cast-result : goal.overflow_cast-result
+overflow_cast-result g c =
     let h : c.in-Some.map.lengths < 2 ^ 64 = search rules in
     omega (arith, ones-le 64 c.in-Some.map.lengths h)
 

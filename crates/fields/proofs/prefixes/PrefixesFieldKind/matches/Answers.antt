@@ -4,4 +4,4 @@ use Rattle.fields.proofs.prefixes.PrefixesFieldKind.matches.Goals as goal
 
 pub returns : goal.returns
 unfolding matches
-returns g c = c.meets.ensures ∙ ap (λ (v : ℕ). matches g.row.W g.row.S c.args.p v) c.to-number.ensures
+returns g c = c.meets.ensures ∙ ap (λ (v : ℕ). matches g.row.W g.row.S c.args.p v) c.to_number.ensures

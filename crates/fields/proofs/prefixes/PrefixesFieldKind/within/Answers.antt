@@ -3,4 +3,4 @@ use Rattle.fields.proofs.prefixes.PrefixesFieldKind.within.Goals as goal
 
 pub returns : goal.returns
 unfolding within
-returns g c = c.lies-within.ensures
+returns g c = c.lies_within.ensures
