@@ -5,7 +5,7 @@ use Rattle.std.proofs.lemmas.Bool.{eq-eqb, leb-false}
 use Rattle.fields.specs.Lengths.{has, clean}
 use Rattle.fields.specs.Prefixes.{make}
 use Rattle.fields.specs.PrefixLaws.{make_is, make_lacks, make_beyond}
-use Rattle.fields.specs.Refusals.{Test, first, refusal}
+use Rattle.fields.specs.Refusals.{first, refusal}
 use Rattle.sheets.specs.Rows.{or_else}
 use Rattle.sheets.specs.Words.{kind, size, low, kind_due_lem}
 use Rattle.sheets.specs.Reading.{at, in_form_lem, lacking, passing, pattern_at, address_at}

@@ -1,7 +1,7 @@
 -- What the readers of words, of rules and of a sheet answer. ws are the words of the sheet, i is a place among them.
 use Rattle.std.specs.Prelude.{◌≡◌, ℕ, ◌+◌, ◌≤◌, cond, not, ◌⊎◌, List, [], ◌∷◌, length, take, Some, None, Ok, Err, Option, Result, ◌==◌, nat_le}
 use Rattle.std.specs.List.{AllByRecursion as All}
-use Rattle.fields.specs.Refusals.{Test, first, code}
+use Rattle.fields.specs.Refusals.{first, code}
 use Rattle.fields.specs.declared.refusal.Refusal.{Refusal}
 use Rattle.sheets.specs.Faults.{fault_at}
 use Rattle.sheets.specs.Words.{kind, rest, kind_due_lem}

@@ -17,7 +17,7 @@ use sheets::row::{PatternRow, RuleRow};
 
 // The row, where it is a pattern of the kind; else the fault of the word at a place.
 fn known<K: FieldKind>(row: PatternRow, place: usize) -> Result<PatternRow, Fault>
-    ensures { Reads (refusal (nest.make row.length.bits row.number) ∷ []) place row result }
+    ensures { Reads (refusal (K.nest.make row.length.bits row.number) ∷ []) place row result }
 {
     match K::make(row.length, row.number) {
         Ok(_) => Ok(row),
@@ -27,7 +27,7 @@ fn known<K: FieldKind>(row: PatternRow, place: usize) -> Result<PatternRow, Faul
 
 // A pattern that takes one word.
 fn read_pattern<K: FieldKind>(bytes: &[u8], place: usize, part: Part) -> Result<PatternRow, Fault>
-    ensures { Reads (or_else (form_refusal (words_of bytes.now) part place) (refusal (nest.make (size (at (words_of bytes.now) place)) (low (at (words_of bytes.now) place)))) ∷ []) place (pattern_at (words_of bytes.now) place) result }
+    ensures { Reads (or_else (form_refusal (words_of bytes.now) part place) (refusal (K.nest.make (size (at (words_of bytes.now) place)) (low (at (words_of bytes.now) place)))) ∷ []) place (pattern_at (words_of bytes.now) place) result }
 {
     let row = words::read_part(bytes, place, part)?;
     known::<K>(row, place)

@@ -8,16 +8,16 @@ pub returns-then-out-size : goal.returns-then-out-size
 returns-then-out-size c =
     let rules = c.args.rules.now in
     let out = c.args.out.now in
-    let refused = narrow rules (length out) c.in-ok-check-rules.ensures.answer (omega arith) in
+    let refused = narrow rules (length out) c.in_ok-check_rules.ensures.answer (omega arith) in
     record { answer = refused; count = tt; out = ap (λ (o : Option ℕ). written o rules out) refused }
 
 pub returns : goal.returns
 returns c =
     let rules = c.args.rules.now in
     let out = c.args.out.now in
-    let fits = roomy rules (length out) c.in-ok-check-rules.ensures.answer (omega arith) in
+    let fits = roomy rules (length out) c.in_ok-check_rules.ensures.answer (omega arith) in
     record {
       answer = fits;
       count = omega (arith, length_sheet rules);
-      out = c.put-sheet.ensures ∙ put_front _ _ ∙ ap (λ (o : Option ℕ). written o rules out) fits;
+      out = c.put_sheet.ensures ∙ put_front _ _ ∙ ap (λ (o : Option ℕ). written o rules out) fits;
     }

@@ -14,4 +14,4 @@ pub returns : goal.returns
 returns c =
     let n = length_words_of c.args.bytes.now in
     let e = at_words_of c.args.bytes.now c.args.place (omega arith) in
-    ((cond-false _ _ _ (lt-leb (length (words_of c.args.bytes.now)) c.args.place (omega arith)), tt), c.from-be-bytes.ensures ∙ sym e)
+    ((cond-false _ _ _ (lt-leb (length (words_of c.args.bytes.now)) c.args.place (omega arith)), tt), c.from_be_bytes.ensures ∙ sym e)

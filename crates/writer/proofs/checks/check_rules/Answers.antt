@@ -6,14 +6,14 @@ use Rattle.sheets.specs.Rows.{rows_refusal}
 use Rattle.writer.proofs.Rows.{rows_step, rows_few, rows_fitting}
 use Rattle.writer.proofs.checks.check_rules.Goals as goal
 
-pub returns-in-err-check-rule : goal.returns-in-err-check-rule
-returns-in-err-check-rule c =
-    let p = err_from_is_err_and c.from-residual.result c.from-residual.ensures.1 in
-    let step = rows_step _ _ _ _ c.loop-rule-test.true (Some (code c.in-err-check-rule.field-0.0)) c.in-err-check-rule.ensures in
+pub returns-in_err-check_rule : goal.returns-in_err-check_rule
+returns-in_err-check_rule c =
+    let p = err_from_is_err_and c.from_residual.result c.from_residual.ensures.1 in
+    let step = rows_step _ _ _ _ c.loop-rule-test.true (Some (code c.in_err-check_rule.field-0.0)) c.in_err-check_rule.ensures in
     rw (p.1, p.2) record { answer = sym step ∙ c.loop-rule.invariant; few = tt; fit = tt }
 
 pub loop-rule-preserved : goal.loop-rule-preserved
-loop-rule-preserved c = sym (rows_step _ _ _ _ c.loop-rule-test.true _ c.in-ok-check-rule.ensures) ∙ c.loop-rule.invariant
+loop-rule-preserved c = sym (rows_step _ _ _ _ c.loop-rule-test.true _ c.in_ok-check_rule.ensures) ∙ c.loop-rule.invariant
 
 pub returns : goal.returns
 returns c =
