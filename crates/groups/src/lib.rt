@@ -27,7 +27,7 @@ pub fn enough_subsets<A, B, C, D, E>() -> u8
 
 // What a subset's key tells of a header.
 pub fn key_tells<A, B, C, D, E, A2, B2, C2, D2, E2>() -> u8
-    ensures { KeyTells (OfFive A B C D E) (five A2 B2 C2 D2 E2) }
+    ensures { KeyTells (OfFive A B C D E) (OfFive A2 B2 C2 D2 E2) }
 {
     0
 }
@@ -48,7 +48,7 @@ pub fn place_by_place<A, B, C, D, E>() -> u8
 
 // Patterns that nest alike are grouped alike.
 pub fn carries<A, B, C, D, E, A2, B2, C2, D2, E2>() -> u8
-    ensures { Carries (OfFive A B C D E) (five A2 B2 C2 D2 E2) }
+    ensures { Carries (OfFive A B C D E) (OfFive A2 B2 C2 D2 E2) }
 {
     0
 }

@@ -1,6 +1,6 @@
 -- What any bytes are read as, taken for an IPv4 packet (RFC 791).
 use Rattle.std.specs.Prelude.{ℕ, ◌+◌, ◌-◌, ◌*◌, ◌/◌, ◌%◌, ◌^◌, Bool, cond, not, ◌&&◌, ◌||◌, List, [], ◌∷◌, length, take, drop, Option, ◌==◌, nat_lt}
-use Rattle.fields.specs.Refusals.{Test, first}
+use Rattle.fields.specs.Refusals.{first}
 use Rattle.octets.specs.Numbers.{byte, two, four}
 use Rattle.packets.specs.declared.header.Header.{Header}
 use Rattle.packets.specs.declared.packet.Packet.{Packet}

@@ -4,8 +4,8 @@ ghost use Rattle.fields.specs.Refusals.{refusal};
 ghost use Rattle.packets.specs.Layouts.{Laid_out, with_ports};
 ghost use Rattle.packets.specs.Packets.{packet_refusal};
 
-use octets::number_of_two;
 use fields::refusal::Refusal;
+use octets::number_of_two;
 
 // The protocols that have ports.
 pub(crate) const TCP: u8 = 6;

@@ -8,9 +8,9 @@ use crate::header::Header;
 use crate::layout;
 use crate::layout::{Layout, TCP, UDP};
 use crate::packet::{Packet, Rest};
-use octets::{number_of_four, number_of_two};
 use fields::refusal::Refusal;
 use fields::sides::Sides;
+use octets::{number_of_four, number_of_two};
 
 // The ports, both 0 in a packet that has none to read.
 fn read_ports(bytes: &[u8], layout: Layout) -> Sides<u16>
