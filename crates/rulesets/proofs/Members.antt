@@ -1,6 +1,6 @@
 -- The members of a set, by the numbers that it has.
 use Rattle.std.proofs.Common.{◌≡◌, ℕ, zero, suc, ◌+◌, ◌/◌, ◌%◌, ◌^◌, ◌<◌, ◌≤◌, Bool, true, false, cond, ◌&&◌, ◌||◌, eqb, List, [], ◌∷◌, ◌++◌, length, filter, sym, refl, ap, ◌∙◌, subst, ap₂, ⊎_elim, arith}
-use mathlib.Core.Bool.{and_true}
+use mathlib.Core.Bool.{and-true}
 use native.Mathlib.Nat.{zero-div}
 use Rattle.std.specs.List.{range_with_len, AllByRecursion as All}
 use Rattle.std.proofs.ByRecursion.{all_kept_by, All-weaker}
@@ -152,7 +152,7 @@ has_outside s n h =
 
 pub has_members : (s : RuleSet) (n : ℕ) → n < 256 → has s n ≡ any (λ m. eqb m n) (members s)
 has_members s n l =
-    sym (and_true (has s n)) ∙ ap (λ b. has s n && b) (sym (any_counting n 0 full (omega arith) (omega (arith, full_is))))
+    sym (and-true (has s n)) ∙ ap (λ b. has s n && b) (sym (any_counting n 0 full (omega arith) (omega (arith, full_is))))
     ∙ sym (any_kept (has s) n (range_with_len 0 full)) ∙ ap (any (λ m. eqb m n)) (sym (members_full s))
 
 pub members_below : (s : RuleSet) → All (λ m. m < 256) (members s)

@@ -1,6 +1,6 @@
 -- How a bit of words is set.
 use Rattle.std.proofs.Common.{◌≡◌, ℕ, zero, suc, ◌+◌, ◌-◌, ◌*◌, ◌/◌, ◌%◌, ◌^◌, ◌<◌, Bool, false, ◌||◌, eqb, List, length, get_or, set, sym, refl, ap, ◌∙◌, subst, ⊎_elim, one-mul, arith}
-use mathlib.Core.Bool.{or_false}
+use mathlib.Core.Bool.{or-false}
 use native.Mathlib.Nat.{div-eq_of_lt}
 use lib.Bits.{bit_or, shifted_even}
 use Rattle.std.proofs.lemmas.Nat.{mod_below, pow-add, pow_below, shl-shr, or_shr, or_mod}
@@ -61,6 +61,6 @@ bit_marked words p j h =
     ∙ ap (λ (b : Bool). bit_at words j || b) (bit_pow (p % 64) (j % 64) ∙ same_word j p e))
     (λ ne.
     ap (λ (x : ℕ). bit_of x (j % 64)) (get_or-set_other words (p / 64) (j / 64) w 0 ne)
-    ∙ sym (or_false (bit_at words j))
+    ∙ sym (or-false (bit_at words j))
     ∙ ap (λ (b : Bool). bit_at words j || b) (sym (ne_eqb j p (λ e. ne (ap (λ (x : ℕ). x / 64) e)))))
     (cases_eq (j / 64) (p / 64))

@@ -10,4 +10,4 @@ returns-in-Some c =
     let line = flat_map piece_bytes c.args.pieces.now in
     let out = c.args.out.now in
     rw (le-ltb (length out) (length line) c.in-Some.ensures.0)
-    record { answer = refl; count = omega (arith, c.put-pieces.ensures.next); out = c.put-pieces.ensures.out ∙ put_front line out }
+    record { answer = refl; count = omega (arith, c.put_pieces.ensures.next); out = c.put_pieces.ensures.out ∙ put_front line out }

@@ -11,7 +11,7 @@ loop-i-init c = sym (put_none _ _)
 
 pub loop-i-preserved : goal.loop-i-preserved
 loop-i-preserved c =
-    c.put-header.ensures ∙ (ap (put_at (16 * c.loop-i.i) _) c.loop-i.invariant ∙ put_more header_bytes 16 (λ _. refl) 0 (16 * c.loop-i.i) c.args.headers.now c.loop-i.i _ c.args.out.now c.loop-i-test.true (omega arith) (omega arith))
+    c.put_header.ensures ∙ (ap (put_at (16 * c.loop-i.i) _) c.loop-i.invariant ∙ put_more header_bytes 16 (λ _. refl) 0 (16 * c.loop-i.i) c.args.headers.now c.loop-i.i _ c.args.out.now c.loop-i-test.true (omega arith) (omega arith))
 
 pub returns : goal.returns
 returns c =

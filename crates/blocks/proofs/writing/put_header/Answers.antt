@@ -7,5 +7,5 @@ use Rattle.blocks.proofs.writing.put_header.Goals as goal
 pub returns : goal.returns
 returns c =
     let place = c.args.place in
-    put_mid-paste place (place + 16 - place) c.args.out.now c.copy-from-slice.new.self (header_bytes c.args.header) 16 (cc) (omega arith) refl
+    put_mid-paste place (place + 16 - place) c.args.out.now c.copy_from_slice.new.self (header_bytes c.args.header) 16 (cc) (omega arith) refl
     ∙ sym (put_is_paste place (header_bytes c.args.header) c.args.out.now)

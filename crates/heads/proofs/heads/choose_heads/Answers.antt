@@ -11,8 +11,8 @@ loop-init c =
     let cs = vec_items c.args.counted.now in
     (rw c.clear.ensures.items (choosing_none levels_at (λ x. x.rules) c.args.g cs), c.clear.ensures.len, refl, refl)
 
-pub returns-then-is-empty : goal.returns-then-is-empty
-returns-then-is-empty c =
+pub returns-then-is_empty : goal.returns-then-is_empty
+returns-then-is_empty c =
     let cs = vec_items c.args.counted.now in
     let inv = c.loop.invariant in
     let none = nil_from_length (vec_items c.loop.counted) (search rules) in
@@ -20,7 +20,7 @@ returns-then-is-empty c =
       chosen = λ ts k. choosing_empty levels_at (λ x. x.rules) c.args.g cs _ c.loop.counter (rw none at inv.0) ∙ heads_chosen ts cs c.args.g k;
       few = search rules;
       capacity = inv.2 ∙ c.clear.ensures.capacity;
-      counted-capacity = inv.3;
+      counted_capacity = inv.3;
     }
 
 pub loop-preserved : goal.loop-preserved
@@ -28,9 +28,9 @@ loop-preserved c =
     let cs = vec_items c.args.counted.now in
     let inv = c.loop.invariant in
     let rest = vec_items c.loop.counted in
-    let picked : Picked (λ x. x.rules) rest c.most.result = rw c.as-slice.ensures.value at c.most.ensures in
+    let picked : Picked (λ x. x.rules) rest c.most.result = rw c.as_slice.ensures.value at c.most.ensures in
     let more = choosing_more levels_at (λ x. x.rules) c.args.g cs rest (map levels_of (vec_items c.loop.heads)) c.loop.counter c.most.result c.remove-head.result inv.0 c.loop-test.true picked c.remove-head.ensures.value in
-    (rw (c.remove-head.ensures.items, c.push-reserved.ensures.items, map_push levels_of (vec_items c.loop.heads) c.remove-head.result.tuple) more, search rules, search rules, search rules)
+    (rw (c.remove-head.ensures.items, c.push_reserved.ensures.items, map_push levels_of (vec_items c.loop.heads) c.remove-head.result.tuple) more, search rules, search rules, search rules)
 
 pub returns : goal.returns
 returns c =
@@ -40,5 +40,5 @@ returns c =
       chosen = λ ts k. choosing_all levels_at (λ x. x.rules) c.args.g cs _ _ _ inv.0 c.loop-test.false ∙ heads_chosen ts cs c.args.g k;
       few = search rules;
       capacity = inv.2 ∙ c.clear.ensures.capacity;
-      counted-capacity = inv.3;
+      counted_capacity = inv.3;
     }

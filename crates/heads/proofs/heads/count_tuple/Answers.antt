@@ -15,9 +15,9 @@ returns-then-is c =
     let cs = vec_items c.loop-i.counted in
     let d = c.index-found.result.now in
     let l : c.loop-i.i < length cs = search rules in
-    let kept = c.index-mut.ensures.value ∙ get_or_default cs c.loop-i.i _ d l ∙ sym c.index-found.ensures in
+    let kept = c.index_mut.ensures.value ∙ get_or_default cs c.loop-i.i _ d l ∙ sym c.index-found.ensures in
     record {
-      counts = λ ts few k. counts_raised ts (levels_of c.args.tuple) cs c.loop-i.i _ d few (rw (← c.loop-i.invariant.1) at k) l (sym c.if-is.ensures) c.index-found.ensures (ap levels_at kept) c.saturating-add.ensures;
+      counts = λ ts few k. counts_raised ts (levels_of c.args.tuple) cs c.loop-i.i _ d few (rw (← c.loop-i.invariant.1) at k) l (sym c.if-is.ensures) c.index-found.ensures (ap levels_at kept) c.saturating_add.ensures;
       longer = search rules;
       capacity = ap vec_capacity c.loop-i.invariant.1;
     }
@@ -35,7 +35,7 @@ returns c =
     let none = rw (take_all c.loop-i.i cs (search rules)) at c.loop-i.invariant.0 in
     let new : Counted = record { tuple = c.args.tuple; rules = 1 } in
     record {
-      counts = λ ts few k. rw c.push-reserved.ensures.items (counts_new ts cs new (rw (← c.loop-i.invariant.1) at k) none refl);
+      counts = λ ts few k. rw c.push_reserved.ensures.items (counts_new ts cs new (rw (← c.loop-i.invariant.1) at k) none refl);
       longer = search rules;
-      capacity = c.push-reserved.ensures.capacity ∙ ap vec_capacity c.loop-i.invariant.1;
+      capacity = c.push_reserved.ensures.capacity ∙ ap vec_capacity c.loop-i.invariant.1;
     }

@@ -22,8 +22,8 @@ loop-i-preserved c =
     let at = ap (λ (z : Counted). z.rules) c.index-counted-i.is in
     let best = ap (λ (z : Counted). z.rules) c.index-counted-best.is in
     elim c.if-counted-i.branch [
-      | then-counted-i w ↦ rw w.best_is (IsFirstBest-takes order counted c.loop-i.i b x y c.loop-i.invariant c.loop-i-test.true c.index-counted-i.is c.index-counted-best.is (lt-ltb y.rules x.rules (omega (arith, at, best))))
-      | else-counted-i w ↦ rw w.best_is (IsFirstBest-keeps order counted c.loop-i.i b x y c.loop-i.invariant c.loop-i-test.true c.index-counted-i.is c.index-counted-best.is (le-ltb y.rules x.rules (omega (arith, at, best))))
+      | then-counted-i w ↦ rw w.best-is (IsFirstBest-takes order counted c.loop-i.i b x y c.loop-i.invariant c.loop-i-test.true c.index-counted-i.is c.index-counted-best.is (lt-ltb y.rules x.rules (omega (arith, at, best))))
+      | else-counted-i w ↦ rw w.best-is (IsFirstBest-keeps order counted c.loop-i.i b x y c.loop-i.invariant c.loop-i-test.true c.index-counted-i.is c.index-counted-best.is (le-ltb y.rules x.rules (omega (arith, at, best))))
     ]
 
 pub returns : goal.returns

@@ -9,6 +9,6 @@ returns c =
     let text = c.args.text.now in
     let out = c.args.out.now in
     record {
-      out = put_mid-paste at (at + length text - at) out _ text (length text) c.copy-from-slice.ensures.after (omega arith) refl ∙ sym (put_is_paste at text out);
+      out = put_mid-paste at (at + length text - at) out _ text (length text) c.copy_from_slice.ensures.after (omega arith) refl ∙ sym (put_is_paste at text out);
       next = refl;
     }

@@ -6,14 +6,14 @@ use Rattle.lines.specs.declared.piece.Piece.{Piece}
 use Rattle.lines.proofs.Joins.{left_more, left_short}
 use Rattle.lines.proofs.room.room_after_pieces.Goals as goal
 
-pub returns-in-err-left : goal.returns-in-err-left
-returns-in-err-left c =
-    rw c.from-residual.ensures
-    (left_short piece_bytes c.args.pieces.now c.loop-piece.piece-index _ c.loop-piece-test.true c.loop-piece.invariant c.in-err-left.ensures)
+pub returns-in_err-left : goal.returns-in_err-left
+returns-in_err-left c =
+    rw c.from_residual.ensures
+    (left_short piece_bytes c.args.pieces.now c.loop-piece.piece-index _ c.loop-piece-test.true c.loop-piece.invariant c.in_err-left.ensures)
 
 pub loop-piece-preserved : goal.loop-piece-preserved
 loop-piece-preserved c =
-    left_more piece_bytes c.args.pieces.now c.loop-piece.piece-index _ c.loop-piece-test.true _ c.loop-piece.invariant c.in-ok-left.ensures
+    left_more piece_bytes c.args.pieces.now c.loop-piece.piece-index _ c.loop-piece-test.true _ c.loop-piece.invariant c.in_ok-left.ensures
 
 pub returns : goal.returns
 returns c =

@@ -12,7 +12,7 @@ loop-number-preserved c =
     let ns = c.numbers-number-items.result in
     let i = c.loop-number.number-index in
     let n : length ns ≡ 6 = ap length c.numbers-number-items.ensures in
-    ap (λ (w : ℕ). fold taken_in w (drop (i + 1) ns)) c.take-in-word.ensures
+    ap (λ (w : ℕ). fold taken_in w (drop (i + 1) ns)) c.take_in-word.ensures
     ∙ sym (at_drop_more (fold taken_in c.loop-number.word) ns i 0 (omega arith)) ∙ c.loop-number.invariant
 
 pub returns : goal.returns

@@ -21,8 +21,8 @@ loop-i-preserved c =
     let told = ap₂ ltb (sym c.distance.ensures) (sym c.distance-in-loop-i.ensures) in
     let best : IsFirstBest (nearer levels_of (levels_of c.args.self)) heads (i + 1) c.if-distance.best =
     elim c.if-distance.branch [
-      | then-distance w ↦ rw w.best_is (IsFirstBest-takes order heads i c.loop-i.best x y c.loop-i.invariant.0 c.loop-i-test.true c.index-heads-i.is c.index-heads-best.is (told ∙ lt-ltb _ _ w.if-distance.true))
-      | else-distance w ↦ rw w.best_is (IsFirstBest-keeps order heads i c.loop-i.best x y c.loop-i.invariant.0 c.loop-i-test.true c.index-heads-i.is c.index-heads-best.is (told ∙ le-ltb _ _ w.if-distance.false))
+      | then-distance w ↦ rw w.best-is (IsFirstBest-takes order heads i c.loop-i.best x y c.loop-i.invariant.0 c.loop-i-test.true c.index-heads-i.is c.index-heads-best.is (told ∙ lt-ltb _ _ w.if-distance.true))
+      | else-distance w ↦ rw w.best-is (IsFirstBest-keeps order heads i c.loop-i.best x y c.loop-i.invariant.0 c.loop-i-test.true c.index-heads-i.is c.index-heads-best.is (told ∙ le-ltb _ _ w.if-distance.false))
     ] in
     (best, λ e. absurd (omega arith))
 

@@ -5,8 +5,8 @@ use Rattle.keytables.proofs.buckets.Buckets.new.Goals as goal
 
 pub returns : goal.returns
 returns c =
-    let e : vec_items c.in-ok-rows.rows ≡ [] = search rules in
-    (sound_none _ _ 4096 (c.in-ok-heads.ensures.items-if-clones-equal (λ y e. e)) e, λ q. stored_none _ q e, ap length e, refl)
+    let e : vec_items c.in_ok-rows.rows ≡ [] = search rules in
+    (sound_none _ _ 4096 (c.in_ok-heads.ensures.items_if_clones_equal (λ y e. e)) e, λ q. stored_none _ q e, ap length e, refl)
 
-pub returns-in-err-rows : goal.returns-in-err-rows
-returns-in-err-rows c = IfOk-from_err _ _ c.from-residual-in-err-rows.ensures.0
+pub returns-in_err-rows : goal.returns-in_err-rows
+returns-in_err-rows c = IfOk-from_err _ _ c.from_residual-in_err-rows.ensures.0

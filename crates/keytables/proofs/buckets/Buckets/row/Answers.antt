@@ -16,9 +16,9 @@ loop-link-init c =
     subst (λ (n : ℕ). Way (chain_of rows) (length rows) (bucket k) (has_key rows k) n) (sym x)
     (way_start c.requires.chained (bucket k) (has_key rows k) (bucket_own rows k))
 
-pub returns-then-same-key : goal.returns-then-same-key
+pub returns-then-same_key : goal.returns-then-same_key
 unfolding row_of
-returns-then-same-key c =
+returns-then-same_key c =
     let rows = vec_items c.args.self.now.rows in
     let i = c.loop-link.link - 1 in
     let y : c.index-row.result.now ≡ get_or rows i no_row = search (rules, get_or_read) in

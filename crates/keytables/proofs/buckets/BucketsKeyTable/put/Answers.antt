@@ -25,12 +25,12 @@ returns-in-Some c =
       tally = cc;
     }
 
-pub returns-then-is-full : goal.returns-then-is-full
-returns-then-is-full c =
+pub returns-then-is_full : goal.returns-then-is_full
+returns-then-is_full c =
     let rows = vec_items c.args.self.now.rows in
     let n = length rows in
     let k = c.args.key in
-    let new : is_some (stored rows k) ≡ false = ap is_some (stored_at rows k _ c.in-default.ensures.row) in
+    let new : is_some (stored rows k) ≡ false = ap is_some (stored_at rows k _ c.in_default.ensures.row) in
     let l : 2048 ≤ n = search rules in
     let s = stores_full (stored rows k) n 2048 new l in
     record {
@@ -49,7 +49,7 @@ returns c =
     let n = length rows in
     let k = c.args.key in
     let e = c.args.entry in
-    let new : is_some (stored rows k) ≡ false = ap is_some (stored_at rows k _ c.in-default.ensures.row) in
+    let new : is_some (stored rows k) ≡ false = ap is_some (stored_at rows k _ c.in_default.ensures.row) in
     let l : n < 2048 = search rules in
     let w : length (vec_items t.heads) ≡ 4096 = search rules in
     let s = stores_new (stored rows k) n 2048 l in

@@ -4,7 +4,7 @@ use Rattle.keytrees.proofs.Stores.{sound_none, stored_none}
 use Rattle.keytrees.proofs.keytree.KeyTree.new.Goals as goal
 
 pub returns : goal.returns
-returns c = (sound_none _ c.in-ok-tree.ensures, λ q. stored_none _ q c.in-ok-tree.ensures, refl, refl)
+returns c = (sound_none _ c.in_ok-tree.ensures, λ q. stored_none _ q c.in_ok-tree.ensures, refl, refl)
 
-pub returns-in-err-tree : goal.returns-in-err-tree
-returns-in-err-tree c = IfOk-from_err _ _ c.from-residual.ensures.0
+pub returns-in_err-tree : goal.returns-in_err-tree
+returns-in_err-tree c = IfOk-from_err _ _ c.from_residual.ensures.0

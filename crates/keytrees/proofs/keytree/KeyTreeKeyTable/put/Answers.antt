@@ -20,7 +20,7 @@ returns-in-Some c =
     let old : is_some (stored nodes k) ≡ true = ap (λ (xs : List ℕ). is_some (held nodes 0 xs)) (sym w) ∙ sym h.holds in
     let l : n < length nodes = h.end.1 in
     let s = stores_old (stored nodes k) t.count 2048 old in
-    let is = c.set-entry.ensures in
+    let is = c.set_entry.ensures in
     record {
       ready = record {
         tree = simp is (grown_set nodes n e l c.requires.tree);
@@ -45,12 +45,12 @@ returns c =
     let g = c.grow-node.ensures in
     let w = c.way-way.ensures in
     let six : length c.way-way.result ≡ 6 = ap length w in
-    let new : is_some (stored nodes k) ≡ false = ap (λ (xs : List ℕ). is_some (held nodes 0 xs)) (sym w) ∙ sym c.in-default.ensures.holds in
+    let new : is_some (stored nodes k) ≡ false = ap (λ (xs : List ℕ). is_some (held nodes 0 xs)) (sym w) ∙ sym c.in_default.ensures.holds in
     let ends : end_of more 0 (way_of k) ≡ Some n = ap (end_of more 0) (sym w) ∙ g.end in
     let same : stored more ≡ stored nodes = λ i q. g.kept.entries 0 (way_of q) i in
     let l : t.count < 2048 = search rules in
     let s = stores_new (stored nodes k) t.count 2048 l in
-    let is = c.set-entry-2.ensures in
+    let is = c.set_entry-2.ensures in
     record {
       ready = record {
         tree = simp is (grown_set more n e g.within g.tree);

@@ -4,12 +4,12 @@ use Rattle.keytrees.proofs.tree.Tree.end.Goals as goal
 
 pub loop-number-preserved : goal.loop-number-preserved
 loop-number-preserved c =
-    (end_more _ _ _ _ _ _ c.loop-number-test.true c.loop-number.invariant.0 c.in-ok-node.ensures.child, c.in-ok-node.ensures.within)
+    (end_more _ _ _ _ _ _ c.loop-number-test.true c.loop-number.invariant.0 c.in_ok-node.ensures.child, c.in_ok-node.ensures.within)
 
-pub returns-in-err-node : goal.returns-in-err-node
-returns-in-err-node c =
-    let e = end_more _ _ _ _ _ _ c.loop-number-test.true c.loop-number.invariant.0 c.in-err-node.ensures.child in
-    rw c.from-residual.ensures (record { end = e; within = tt })
+pub returns-in_err-node : goal.returns-in_err-node
+returns-in_err-node c =
+    let e = end_more _ _ _ _ _ _ c.loop-number-test.true c.loop-number.invariant.0 c.in_err-node.ensures.child in
+    rw c.from_residual.ensures (record { end = e; within = tt })
 
 pub returns : goal.returns
 returns c = record { end = end_all _ c.args.way.now c.loop-number.number-index _ _ (search rules) c.loop-number.invariant.0; within = c.loop-number.invariant.1 }

@@ -5,25 +5,25 @@ use Rattle.keytrees.specs.declared.tree.Node.{Node}
 use Rattle.keytrees.proofs.Ends.{held_at}
 use Rattle.keytrees.proofs.tree.Tree.holder.Goals as goal
 
-pub returns-in-err-node : goal.returns-in-err-node
-returns-in-err-node c =
-    let h = ap is_some (held_at _ _ _ _ (sym c.in-err-node.ensures.end)) in
-    rw c.from-residual.ensures (record { holds = sym h; end = tt })
+pub returns-in_err-node : goal.returns-in_err-node
+returns-in_err-node c =
+    let h = ap is_some (held_at _ _ _ _ (sym c.in_err-node.ensures.end)) in
+    rw c.from_residual.ensures (record { holds = sym h; end = tt })
 
-pub returns-then-is-some : goal.returns-then-is-some
-returns-then-is-some c =
+pub returns-then-is_some : goal.returns-then-is_some
+returns-then-is_some c =
     let nodes = vec_items c.args.self.now.nodes in
-    let n = c.in-ok-node.node in
+    let n = c.in_ok-node.node in
     let y : c.index.result.now ≡ get_or nodes n no_node = search (rules, get_or_read) in
-    let s : is_some (get_or nodes n no_node).entry ≡ true = ap (λ (v : Node). is_some v.entry) (sym y) ∙ sym c.if-is-some.ensures in
-    let e = sym c.in-ok-node.ensures.end in
-    record { holds = sym (ap is_some (held_at _ _ _ _ e) ∙ s); end = (e, c.in-ok-node.ensures.within) }
+    let s : is_some (get_or nodes n no_node).entry ≡ true = ap (λ (v : Node). is_some v.entry) (sym y) ∙ sym c.if-is_some.ensures in
+    let e = sym c.in_ok-node.ensures.end in
+    record { holds = sym (ap is_some (held_at _ _ _ _ e) ∙ s); end = (e, c.in_ok-node.ensures.within) }
 
-pub returns-else-is-some : goal.returns-else-is-some
-returns-else-is-some c =
+pub returns-else-is_some : goal.returns-else-is_some
+returns-else-is_some c =
     let nodes = vec_items c.args.self.now.nodes in
-    let n = c.in-ok-node.node in
+    let n = c.in_ok-node.node in
     let y : c.index.result.now ≡ get_or nodes n no_node = search (rules, get_or_read) in
-    let s : is_some (get_or nodes n no_node).entry ≡ false = ap (λ (v : Node). is_some v.entry) (sym y) ∙ sym c.if-is-some.ensures in
-    let e = sym c.in-ok-node.ensures.end in
+    let s : is_some (get_or nodes n no_node).entry ≡ false = ap (λ (v : Node). is_some v.entry) (sym y) ∙ sym c.if-is_some.ensures in
+    let e = sym c.in_ok-node.ensures.end in
     record { holds = sym (ap is_some (held_at _ _ _ _ e) ∙ s); end = tt }

@@ -6,4 +6,4 @@ use Rattle.screens.proofs.bloom.BloomScreen.add.Goals as goal
 pub returns : goal.returns
 returns c =
     let n : length (vec_items c.args.self.now.words) ≡ 512 = search rules in
-    record { bits = λ j. ap (λ (words : List ℕ). bit_at words j) c.mark-key.ensures ∙ added_bits _ c.args.key n j }
+    record { bits = λ j. ap (λ (words : List ℕ). bit_at words j) c.mark_key.ensures ∙ added_bits _ c.args.key n j }

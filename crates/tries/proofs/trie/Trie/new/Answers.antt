@@ -4,5 +4,5 @@ use Rattle.tries.proofs.trie.Trie.new.Goals as goal
 
 pub returns : goal.returns
 returns g c =
-    let h = c.in-ok-patterns.ensures.items in
-    (ready_root g.K.Spelled.spelling (vec_items c.in-ok-nodes.nodes.list) (vec_items c.in-ok-patterns.patterns) c.in-ok-nodes.ensures h, h)
+    let h = c.in_ok-patterns.ensures.items in
+    (ready_root g.K.Spelled.spelling (vec_items c.in_ok-nodes.nodes.list) (vec_items c.in_ok-patterns.patterns) c.in_ok-nodes.ensures h, h)

@@ -8,7 +8,7 @@ returns g c =
     let n : c.len-count.result ≡ length held = search rules in
     let l : length held < 257 = omega (arith, c.if-count-ge-ROOM.false) in
     record {
-      ready = ready_more g.K.Spelled.spelling _ _ held c.args.p _ _ c.path.ensures c.requires c.insert.ensures.here c.insert.ensures.others n c.insert.ensures.tree c.in-default.ensures l c.insert.ensures.long _ c.push-reserved.ensures.items;
+      ready = ready_more g.K.Spelled.spelling _ _ held c.args.p _ _ c.path.ensures c.requires c.insert.ensures.here c.insert.ensures.others n c.insert.ensures.tree c.in_default.ensures l c.insert.ensures.long _ c.push_reserved.ensures.items;
       label = search rules;
       held = search rules;
       room = refl;
