@@ -65,18 +65,18 @@ pub fn look_up<S: Supports, T: KeyTable, X: Screen>(
     header: &S::Header,
     subset: u8,
 ) -> Found
-    requires source { Source-as-Spot.ready under.old.front.source }
-    requires destination { Destination-as-Spot.ready under.old.front.destination }
-    requires sport { SourcePort-as-Spot.ready under.old.front.sport }
-    requires dport { DestinationPort-as-Spot.ready under.old.front.dport }
-    requires protocol { Protocol-as-Spot.ready under.old.front.protocol }
+    requires source { S.Source.Spot.ready under.old.front.source }
+    requires destination { S.Destination.Spot.ready under.old.front.destination }
+    requires sport { S.SourcePort.Spot.ready under.old.front.sport }
+    requires dport { S.DestinationPort.Spot.ready under.old.front.dport }
+    requires protocol { S.Protocol.Spot.ready under.old.front.protocol }
     requires table { T.KeyTable.ready under.old.table }
     requires screen { X.Screen.ready under.old.screen }
-    ensures source { label_place result.located.addresses.source ≡ best_label Source-as-Spot.kind.nest (Source-as-Spot.held under.old.front.source) (Source-as-Spot.value header.now) }
-    ensures destination { label_place result.located.addresses.destination ≡ best_label Destination-as-Spot.kind.nest (Destination-as-Spot.held under.old.front.destination) (Destination-as-Spot.value header.now) }
-    ensures sport { label_place result.located.ports.source ≡ best_label SourcePort-as-Spot.kind.nest (SourcePort-as-Spot.held under.old.front.sport) (SourcePort-as-Spot.value header.now) }
-    ensures dport { label_place result.located.ports.destination ≡ best_label DestinationPort-as-Spot.kind.nest (DestinationPort-as-Spot.held under.old.front.dport) (DestinationPort-as-Spot.value header.now) }
-    ensures protocol { label_place result.located.protocol ≡ best_label Protocol-as-Spot.kind.nest (Protocol-as-Spot.held under.old.front.protocol) (Protocol-as-Spot.value header.now) }
+    ensures source { label_place result.located.addresses.source ≡ best_label S.Source.Spot.kind.nest (S.Source.Spot.held under.old.front.source) (S.Source.Spot.value header.now) }
+    ensures destination { label_place result.located.addresses.destination ≡ best_label S.Destination.Spot.kind.nest (S.Destination.Spot.held under.old.front.destination) (S.Destination.Spot.value header.now) }
+    ensures sport { label_place result.located.ports.source ≡ best_label S.SourcePort.Spot.kind.nest (S.SourcePort.Spot.held under.old.front.sport) (S.SourcePort.Spot.value header.now) }
+    ensures dport { label_place result.located.ports.destination ≡ best_label S.DestinationPort.Spot.kind.nest (S.DestinationPort.Spot.held under.old.front.dport) (S.DestinationPort.Spot.value header.now) }
+    ensures protocol { label_place result.located.protocol ≡ best_label S.Protocol.Spot.kind.nest (S.Protocol.Spot.held under.old.front.protocol) (S.Protocol.Spot.value header.now) }
     ensures entry { result.entry ≡ screened (X.Screen.says under.old.screen) (T.KeyTable.map under.old.table) (key_of subset result.located) }
     ensures tally { T.KeyTable.tally under.new.table ≡ (if X.Screen.says under.old.screen (key_of subset result.located) then min (T.KeyTable.tally under.old.table + 1) 65535 else T.KeyTable.tally under.old.table) }
 {

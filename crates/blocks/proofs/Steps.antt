@@ -1,14 +1,11 @@
 -- The steps of the loops that read and write headers.
-use Rattle.std.proofs.Common.{◌≡◌, ℕ, ◌+◌, ◌*◌, ◌/◌, ◌<◌, ◌≤◌, Bool, false, ◌||◌, List, [], ◌∷◌, ◌++◌, map, length, get_or, take, drop, set, sym, refl, ap, ◌∙◌, zero-add, arith}
-use lib.Seq.{paste}
+use Rattle.std.proofs.Common.{◌≡◌, ℕ, ◌+◌, ◌*◌, ◌/◌, ◌<◌, ◌≤◌, Bool, false, ◌||◌, List, [], ◌∷◌, ◌++◌, map, length, drop, set, sym, ap, ◌∙◌, arith}
 use Rattle.std.proofs.lemmas.List.FromFn.{length-map-range_with_len, get_or-map-range_with_len, map-range_with_len_more}
-use Rattle.std.proofs.lemmas.List.Edits.{paste_none, paste_all, paste-paste}
-use Rattle.std.proofs.lemmas.List.{append_assoc, length-append, length-map, length-take-le, drop_more, set_at, take_more, map_push, at_drop_more, at_drop_all, flat_map_more}
+use Rattle.std.proofs.lemmas.List.{append_assoc, length-map, drop_more, set_at, map_push, at_drop_more, at_drop_all}
 use Rattle.fields.specs.Lists.{any}
 use Rattle.packets.specs.declared.header.Header.{Header}
-use Rattle.blocks.specs.Blocks.{header_bytes, block_bytes, header_at, spoiled, starts}
-use Rattle.octets.specs.Output.{put_at}
-use Rattle.blocks.proofs.Headers.{starts_from, length_block}
+use Rattle.blocks.specs.Blocks.{header_at, spoiled, starts}
+use Rattle.blocks.proofs.Headers.{starts_from}
 
 module _ (bs : List ℕ) (i : ℕ) where
   -- the headers from place i on are spoiled as header i is, or else as those after it

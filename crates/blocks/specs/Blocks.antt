@@ -1,7 +1,7 @@
 -- The format of a header block, and what any bytes are read as, taken for one.
-use Rattle.std.specs.Prelude.{ℕ, ◌+◌, ◌*◌, ◌/◌, ◌%◌, ◌^◌, Bool, cond, not, ◌||◌, List, [], ◌∷◌, ◌++◌, map, length, drop, Some, None, Option, ◌==◌, nat_lt}
+use Rattle.std.specs.Prelude.{ℕ, ◌+◌, ◌*◌, ◌/◌, ◌%◌, Bool, not, ◌||◌, List, [], ◌∷◌, ◌++◌, map, length, drop, Some, None, Option, ◌==◌, nat_lt}
 use Rattle.std.specs.List.{range_with_len, flat_map}
-use Rattle.fields.specs.Refusals.{Test, first}
+use Rattle.fields.specs.Refusals.{first}
 use Rattle.fields.specs.Lists.{any}
 use Rattle.octets.specs.Numbers.{byte, two, four}
 use Rattle.packets.specs.declared.header.Header.{Header}

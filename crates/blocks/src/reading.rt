@@ -4,8 +4,8 @@ ghost use Rattle.fields.specs.Lists.{any};
 ghost use Rattle.blocks.specs.Blocks.{header_at, headers_in, spoiled, starts};
 
 use crate::HEADER_BYTES;
-use octets::{number_of_four, number_of_two};
 use fields::sides::Sides;
+use octets::{number_of_four, number_of_two};
 use packets::header::Header;
 
 // The header that begins at a place.

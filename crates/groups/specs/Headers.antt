@@ -1,5 +1,5 @@
 -- What a header means for the rules of a subset. V i are the header values of place i, and v is the header.
-use Rattle.std.specs.Prelude.{ℕ, Bool, ◌&&◌, List, length, filter, ◌==◌}
+use Rattle.std.specs.Prelude.{ℕ, Bool, List, length, filter, ◌==◌}
 use Rattle.fields.specs.Lists.{any}
 use Rattle.levels.specs.Levels.{innermost}
 use Rattle.groups.specs.Lists.{every}

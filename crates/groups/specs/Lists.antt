@@ -1,5 +1,5 @@
 -- Lists of which one element after another is chosen, and lists over places.
-use Rattle.std.specs.Prelude.{ℕ, zero, suc, Bool, true, false, cond, ◌&&◌, List, [], ◌∷◌, nat_le}
+use Rattle.std.specs.Prelude.{ℕ, zero, suc, Bool, true, cond, ◌&&◌, List, [], ◌∷◌, nat_le}
 
 module _ {X : Type 0} where
   -- of x and the others the one that counts most, of several the first, and then the rest in their order

@@ -1,14 +1,14 @@
 -- What holds of the grouping, over all rules and patterns that nest.
-use Rattle.std.specs.Prelude.{◌≡◌, ℕ, zero, suc, ◌+◌, ◌≤◌, Bool, true, false, ◌||◌, List, [], ◌∷◌, ◌++◌, map, length, filter}
+use Rattle.std.specs.Prelude.{◌≡◌, ℕ, zero, suc, ◌≤◌, Bool, true, false, ◌||◌, List, [], map, length, filter}
 use Rattle.std.specs.List.{range_with_len, flat_map, AllByRecursion as All}
 use Rattle.fields.specs.Lists.{any}
 use Rattle.levels.specs.Levels.{same, marked}
 use Rattle.groups.specs.Rules.{Nesting, Rule}
 use Rattle.groups.specs.Tuples.{level_at, tuple, tuples, heads, subset}
-use Rattle.groups.specs.Keys.{Combination, combine, used, lies, keys, pseudo}
+use Rattle.groups.specs.Keys.{Combination, used, lies, keys, pseudo}
 use Rattle.groups.specs.Taking.{Sorted, sorted, taken_into, shelf}
 use Rattle.groups.specs.Visits.{visits}
-use Rattle.groups.specs.Headers.{meets, key, hit, yields}
+use Rattle.groups.specs.Headers.{meets, key, hit}
 
 -- lying within is reflexive and transitive at each place
 pub record Nests {P : ℕ → Type 0} (N : Nesting P) : Type 0 where

@@ -1,5 +1,5 @@
 -- Keys, and what is stored under them.
-use Rattle.std.specs.Prelude.{ℕ, suc, Bool, cond, ◌&&◌, ◌||◌, is_some, Some, None, Option, ◌==◌, nat_lt}
+use Rattle.std.specs.Prelude.{ℕ, suc, Bool, cond, ◌&&◌, ◌||◌, is_some, Some, Option, ◌==◌, nat_lt}
 use Rattle.keytables.specs.declared.key.Key.{Key}
 use Rattle.fields.specs.declared.numbers.Label.{Label}
 use Rattle.fields.specs.declared.perfield.PerField.{PerField}

@@ -1,5 +1,5 @@
 -- Bytes written one after another, with the next place.
-use Rattle.std.proofs.Common.{◌≡◌, ℕ, ◌+◌, ◌≤◌, List, [], ◌++◌, length, sym, arith}
+use Rattle.std.proofs.Common.{◌≡◌, ℕ, ◌≤◌, List, [], ◌++◌, length, sym, arith}
 use Rattle.std.proofs.lemmas.List.{length-append}
 use Rattle.octets.proofs.Puts as puts
 use Rattle.lines.specs.Output.{Put}

@@ -1,7 +1,7 @@
 -- The lines that a listing of headers is made of, as bytes of text.
 use Rattle.std.specs.Prelude.{ℕ, List, [], ◌∷◌, ◌++◌, length, drop, Some, None, codes, decimal, Option, nat_lt}
 use Rattle.std.specs.List.{flat_map}
-use Rattle.fields.specs.Refusals.{Test, first}
+use Rattle.fields.specs.Refusals.{first}
 
 -- numbers with single spaces between them, or a dash where there is none
 abbrev pub spaced : List ℕ → List ℕ

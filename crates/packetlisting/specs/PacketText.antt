@@ -1,5 +1,5 @@
 -- What the listing of a file that should be one packet says.
-use Rattle.std.specs.Prelude.{ℕ, cond, List, [], ◌∷◌, ◌++◌, length, Some, None, codes, decimal, Option, nat_lt}
+use Rattle.std.specs.Prelude.{ℕ, cond, List, ◌++◌, length, Some, None, codes, decimal, Option, nat_lt}
 use Rattle.lines.specs.Lines.{refusal_line}
 use Rattle.packets.specs.Packets.{Follows, tcp, udp, later_fragment, other, Shown, packet_refusal, packet_shown}
 use Rattle.packets.specs.declared.header.Header.{Header}

@@ -95,7 +95,7 @@ impl<F, L> At<F, L> {
 impl<F: Finder, L: Field<Value = F::Value>> Spot for At<F, L> {
     type Header = L::Header;
 
-    ghost kind = { record { Pattern = F.Pattern; Value = F.Value; nest = Kind-as-FieldKind.nest } };
+    ghost kind = { record { Pattern = F.Pattern; Value = F.Value; nest = F.Kind.nest } };
 
     ghost value = { L.Field.value };
 
@@ -136,7 +136,7 @@ impl<F: Finder, L: Field<Value = F::Value>> Spot for At<F, L> {
 
 // The pattern of a row's part, or the whole one where the kind refuses it.
 fn pattern<F: Finder>(part: PatternRow) -> F::Pattern
-    ensures { result ≡ pattern_of (record { Pattern = F.Pattern; Value = F.Value; nest = Kind-as-FieldKind.nest }) part }
+    ensures { result ≡ pattern_of (record { Pattern = F.Pattern; Value = F.Value; nest = F.Kind.nest }) part }
 {
     match F::Kind::make(part.length, part.number) {
         Ok(p) => p,

@@ -1,5 +1,5 @@
 -- What the words of a filter say.
-use Rattle.std.specs.Prelude.{◌≡◌, ℕ, ◌/◌, ◌%◌, ◌^◌, Bool, ◌||◌, List, set, fold, ◌==◌, bit_or, nat_eq, slice_index, slice_set}
+use Rattle.std.specs.Prelude.{◌≡◌, ℕ, ◌/◌, ◌%◌, ◌^◌, Bool, ◌||◌, List, fold, ◌==◌, bit_or, nat_eq, slice_index, slice_set}
 use Rattle.fields.specs.Lists.{any, all}
 use Rattle.keytables.specs.declared.key.Key.{Key}
 use Rattle.screens.specs.Places.{places_of}

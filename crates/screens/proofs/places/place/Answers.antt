@@ -1,4 +1,4 @@
-use Rattle.std.proofs.Common.{ℕ, ◌*◌, ◌/◌, ◌^◌}
+use Rattle.std.proofs.Common.{◌*◌, ◌/◌, ◌^◌}
 use lib.Bits.{and_mask, mask_lt}
 use Rattle.screens.specs.Places.{part}
 use Rattle.screens.proofs.places.place.Goals as goal

@@ -9,4 +9,4 @@ returns-then-number-gt255 c =
     sym (stands_row s c.args.number ∙ ap is_some (get_or_past s c.args.number None (omega arith)))
 
 pub returns : goal.returns
-returns c = c.is-some.ensures ∙ sym (stands_row c.args.self.now.slots c.args.number)
+returns c = c.is_some.ensures ∙ sym (stands_row c.args.self.now.slots c.args.number)
