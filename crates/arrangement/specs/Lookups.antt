@@ -1,5 +1,5 @@
 -- What is looked up under the best labels of a header.
-use Rattle.std.specs.Prelude.{ℕ, ◌+◌, min, Bool, cond, Some, None, Option}
+use Rattle.std.specs.Prelude.{ℕ, Bool, cond, Some, None, Option}
 use Rattle.fields.specs.declared.numbers.Label.{Label}
 use Rattle.fields.specs.declared.perfield.PerField.{PerField}
 use Rattle.keytables.specs.declared.key.Key.{Key}

@@ -1,5 +1,5 @@
 -- The worked examples, by computing, one part after another.
-use Rattle.std.proofs.Common.{◌≡◌, [], ◌∷◌, refl, ap, ◌∙◌}
+use Rattle.std.proofs.Common.{◌≡◌, [], ◌∷◌, refl}
 use Rattle.fields.specs.Prefixes.{matches, within, make}
 use Rattle.fields.specs.PrefixLaws.{whole}
 use Rattle.book.specs.Worked.{Worked, computed, expected, shown, four}

@@ -1,5 +1,5 @@
 -- The plain book. It is fed the arguments of every call on an engine since that was new, and no answers. A rule stands while it is in the book.
-use Rattle.std.specs.Prelude.{ℕ, Bool, true, cond, not, ◌||◌, List, [], ◌∷◌, map, length, is_some, Some, None, filter, Option, ◌==◌, nat_eq, nat_lt}
+use Rattle.std.specs.Prelude.{ℕ, Bool, cond, not, ◌||◌, List, [], ◌∷◌, map, length, is_some, Some, None, filter, Option, ◌==◌, nat_eq, nat_lt}
 use Rattle.fields.specs.Lists.{any}
 use Rattle.fields.specs.Refusals.{Test, first}
 use Rattle.groups.specs.Rules.{Rule}

@@ -1,5 +1,5 @@
 -- The worked examples: addresses, ports and protocols as in IPv4, a sheet of four rules, and what is worked out of it.
-use Rattle.std.specs.Prelude.{◌≡◌, ℕ, Bool, List, [], ◌∷◌, map, length, Some, None, filter, Option}
+use Rattle.std.specs.Prelude.{◌≡◌, ℕ, List, [], ◌∷◌, map, length, Some, None, filter, Option}
 use Rattle.std.specs.List.{range_with_len}
 use Rattle.fields.specs.Numbering.{itself}
 use Rattle.fields.specs.PrefixLaws.{prefix_nest}

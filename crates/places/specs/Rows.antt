@@ -1,7 +1,7 @@
 -- What the rows of a rule list mean to five kinds.
-use Rattle.std.specs.Prelude.{ℕ, zero, suc, Bool, false, List, [], ◌∷◌, Some, None, Ok, Err, Option, Result, ◌==◌}
+use Rattle.std.specs.Prelude.{ℕ, zero, suc, Bool, false, [], ◌∷◌, Some, None, Ok, Err, Option, Result, ◌==◌}
 use Rattle.fields.specs.Lists.{any}
-use Rattle.fields.specs.Refusals.{Test, first, refusal}
+use Rattle.fields.specs.Refusals.{first, refusal}
 use Rattle.fields.specs.declared.refusal.Refusal.{Refusal}
 use Rattle.groups.specs.Rules.{Rule}
 use Rattle.places.specs.Kinds.{Kind}
