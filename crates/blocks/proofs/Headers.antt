@@ -1,6 +1,6 @@
 -- Headers, their bytes, and the numbers in them.
 use Rattle.std.proofs.Common.{◌≡◌, ℕ, ◌+◌, ◌*◌, ◌/◌, ◌%◌, ◌<◌, ◌≤◌, false, not, ◌||◌, eqb, List, [], ◌∷◌, ◌++◌, map, length, take, drop, sym, refl, ap, ◌∙◌, ap₂, add-zero, arith}
-use Rattle.std.specs.List.{range_with_len, AllByRecursion as All}
+use Rattle.std.specs.List.{range_with_len, AllByRecursion}
 use Rattle.std.proofs.lemmas.List.FromFn.{fill_by_all}
 use Rattle.std.proofs.ByRecursion.{All-get_or}
 use Rattle.std.proofs.lemmas.List.{length-append, length-take-le, take-append-drop, get_or-take, get_or-drop}
@@ -64,7 +64,7 @@ four_again a b c d l m n =
     ap₂ (λ x y. two_bytes x ++ two_bytes y) high low ∙ ap₂ ◌++◌ (two_again a b l) (two_again c d n)
 
 -- sixteen bytes at the front
-module _ (bs : List ℕ) (long : 16 ≤ length bs) (small : All (λ b. b < 256) bs) (clean : spoiled bs 0 ≡ false) where
+module _ (bs : List ℕ) (long : 16 ≤ length bs) (small : AllByRecursion (λ b. b < 256) bs) (clean : spoiled bs 0 ≡ false) where
   below : (i : ℕ) → i < 16 → byte bs i < 256
   below i l = All-get_or (λ b. b < 256) bs i 0 (omega arith) small
 

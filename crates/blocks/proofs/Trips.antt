@@ -1,6 +1,6 @@
 -- Blocks that are written and read again, and read and written again.
 use Rattle.std.proofs.Common.{◌≡◌, ℕ, zero, suc, ◌+◌, ◌*◌, ◌/◌, ◌%◌, ◌<◌, ◌≤◌, Bool, true, false, cond, not, ◌||◌, eqb, ltb, List, [], ◌∷◌, ◌++◌, map, length, drop, Some, None, Option, sym, refl, ap, ◌∙◌, ap₂, arith}
-use Rattle.std.specs.List.{AllByRecursion as All}
+use Rattle.std.specs.List.{AllByRecursion}
 use Rattle.std.proofs.ByRecursion.{All-drop}
 use Rattle.std.proofs.lemmas.List.{length-drop, drop-drop, drop_all}
 use Rattle.std.proofs.lemmas.Bool.{or_parts, or_from, not-false, not_from_true, eqb-true, eq-eqb, le-ltb, cond-false}
@@ -46,7 +46,7 @@ passed : (b : Bool) (n : ℕ) (o : Option ℕ) → cond b (Some n) o ≡ None �
 passed true n o e = let z : ◌≡◌ {A = ℕ} 0 1 = cc in absurd (omega arith)
 passed false n o e = refl
 
-module _ (bs : List ℕ) (small : All (λ b. b < 256) bs) where
+module _ (bs : List ℕ) (small : AllByRecursion (λ b. b < 256) bs) where
   bytes_from : (n k : ℕ) → 16 * (k + n) ≡ length bs → any (spoiled bs) (starts_from k n) ≡ false → block_bytes (map (header_at bs) (starts_from k n)) ≡ drop (16 * k) bs
   bytes_from zero k e clean = sym (drop_all (16 * k) bs (omega arith))
   bytes_from (suc n) k e clean =

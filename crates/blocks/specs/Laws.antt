@@ -1,6 +1,6 @@
 -- The round trips of header blocks.
 use Rattle.std.specs.Prelude.{◌≡◌, ℕ, ◌^◌, ◌<◌, ◌≤◌, List, length, None}
-use Rattle.std.specs.List.{AllByRecursion as All}
+use Rattle.std.specs.List.{AllByRecursion}
 use Rattle.packets.specs.declared.header.Header.{Header}
 use Rattle.blocks.specs.Blocks.{block_bytes, headers_in, read_refusal}
 
@@ -18,8 +18,8 @@ pub record ReadsBack (hs : List Header) (places : ℕ) : Type 0 where
   pub same : headers_in (block_bytes hs) ≡ hs
 
 abbrev pub WrittenIsRead : Type 0
-WrittenIsRead = (hs : List Header) (places : ℕ) → All Fit hs → length hs ≤ places → ReadsBack hs places
+WrittenIsRead = (hs : List Header) (places : ℕ) → AllByRecursion Fit hs → length hs ≤ places → ReadsBack hs places
 
 -- an accepted block, written again, has the same bytes
 abbrev pub ReadIsWritten : Type 0
-ReadIsWritten = (bs : List ℕ) (places : ℕ) → All (λ b. b < 256) bs → read_refusal bs places ≡ None → block_bytes (headers_in bs) ≡ bs
+ReadIsWritten = (bs : List ℕ) (places : ℕ) → AllByRecursion (λ b. b < 256) bs → read_refusal bs places ≡ None → block_bytes (headers_in bs) ≡ bs

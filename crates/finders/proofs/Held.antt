@@ -5,7 +5,7 @@ use Rattle.std.proofs.ByRecursion.{All-get_or}
 use Rattle.std.proofs.lemmas.List.{append-nil, append_assoc, length_push, get_or_append_left, get_or_push}
 use Rattle.std.proofs.lemmas.Bool.{and_from, not-false, both_ways, cases_lt}
 use Rattle.std.specs.Option.{option_map}
-use Rattle.std.specs.List.{AllByRecursion as All}
+use Rattle.std.specs.List.{AllByRecursion}
 use Rattle.fields.specs.Lists.{any, once}
 use Rattle.fields.specs.Nest.{Nest}
 use Rattle.levels.specs.Levels.{same, marked}
@@ -18,7 +18,7 @@ use Rattle.finders.proofs.Labels.{iff}
 module _ {X : Type 0} (q : X → Bool) (d : X) where
   -- what stands at a place that was found passes, and where none was found nothing does
   abbrev Placed : List X → Option ℕ → Type 0
-  Placed xs None = All (λ x. q x ≡ false) xs
+  Placed xs None = AllByRecursion (λ x. q x ≡ false) xs
   Placed xs (Some k) = (k < length xs) × (q (get_or xs k d) ≡ true)
 
   placed : (xs : List X) → Placed xs (place q xs)

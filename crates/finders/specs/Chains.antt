@@ -1,6 +1,6 @@
 -- The way up from a label: itself, its parent, the parent of that, and so on.
 use Rattle.std.specs.Prelude.{◌≡◌, ℕ, zero, suc, ◌<◌, ◌≤◌, Bool, true, false, cond, List, [], ◌∷◌, length, Some, None, filter, Option, nat_eq}
-use Rattle.std.specs.List.{AllByRecursion as All}
+use Rattle.std.specs.List.{AllByRecursion}
 use Rattle.fields.specs.Lists.{any}
 use Rattle.fields.specs.Nest.{Nest}
 use Rattle.levels.specs.Levels.{around}
@@ -32,7 +32,7 @@ module _ {P V : Type 0} (N : Nest P V) (held : List P) where
 
   -- what the way up from l says of all labels
   pub record Way (l : ℕ) (ls : List ℕ) : Type 0 where
-    pub low : All (λ b. b < length held) ls
+    pub low : AllByRecursion (λ b. b < length held) ls
     pub members : (b : ℕ) → b < length held → any (nat_eq b) ls ≡ inside N held l b
     pub level : length ls ≡ suc (length (filter (around N.within (pattern_at N held l)) held))
     pub first : (u : ℕ → Bool) → Innermost u l (first_that u ls)

@@ -1,6 +1,6 @@
 -- Lists of which no two are the same, and how long they can be.
 use Rattle.std.proofs.Common.{◌≡◌, ◌≤◌, Bool, true, false, not, List, [], ◌∷◌, ◌++◌, length, filter, refl, arith}
-use Rattle.std.specs.List.{AllByRecursion as All}
+use Rattle.std.specs.List.{AllByRecursion}
 use Rattle.std.proofs.ByRecursion.{all_kept_by, kept_by_passes, All-weaker, All-append}
 use Rattle.std.proofs.lemmas.List.Filters.{length-filter_both}
 use Rattle.std.proofs.lemmas.Bool.{cond_both, not-true, not_from_false, both_ways}
@@ -10,7 +10,7 @@ use Rattle.groups.proofs.Tests.{false_from, all_with, any_kept, any_long}
 module _ {X : Type 0} (eq : X → X → Bool) where
   abbrev pub Apart : List X → Type 0
   Apart [] = Unit {0}
-  Apart (x ∷ xs) = All (λ y. eq x y ≡ false) xs × Apart xs
+  Apart (x ∷ xs) = AllByRecursion (λ y. eq x y ≡ false) xs × Apart xs
 
   pub apart_kept : (p : X → Bool) (xs : List X) → Apart xs → Apart (filter p xs)
   apart_kept p [] a = tt
@@ -21,12 +21,12 @@ module _ {X : Type 0} (eq : X → X → Bool) where
   apart_once (x ∷ xs) =
       (All-weaker _ (λ y. eq x y ≡ false) (λ y h. not-true _ h) _ (kept_by_passes (λ y. not (eq x y)) (once eq xs)), apart_kept _ (once eq xs) (apart_once xs))
 
-  pub apart_append : (xs ys : List X) → Apart xs → Apart ys → All (λ x. All (λ y. eq x y ≡ false) ys) xs → Apart (xs ++ ys)
+  pub apart_append : (xs ys : List X) → Apart xs → Apart ys → AllByRecursion (λ x. AllByRecursion (λ y. eq x y ≡ false) ys) xs → Apart (xs ++ ys)
   apart_append [] ys a b c = b
   apart_append (x ∷ xs) ys a b c = (All-append (λ y. eq x y ≡ false) xs ys a.0 c.0, apart_append xs ys a.1 b c.1)
 
   -- as many as there are different ones to be like
-  pub pigeons : ((x y z : X) → eq x z ≡ true → eq y z ≡ true → eq x y ≡ true) → (xs ys : List X) → Apart xs → All (λ x. any (eq x) ys ≡ true) xs → length xs ≤ length ys
+  pub pigeons : ((x y z : X) → eq x z ≡ true → eq y z ≡ true → eq x y ≡ true) → (xs ys : List X) → Apart xs → AllByRecursion (λ x. any (eq x) ys ≡ true) xs → length xs ≤ length ys
   pigeons like [] ys a h = omega arith
   pigeons like (x ∷ xs) ys a h =
       let others : X → Bool = λ z. not (eq x z) in
@@ -34,7 +34,7 @@ module _ {X : Type 0} (eq : X → X → Bool) where
       omega (arith, pigeons like xs (filter others ys) a.1 rest, length-filter_both (eq x) others (λ z. refl) ys, any_long (eq x) _ (any_kept (eq x) (eq x) (λ z t. t) ys h.0))
 
   -- where all are the same, there is one at most
-  pub few_alike : (G : X → Type 0) → ((a b : X) → G a → G b → eq a b ≡ true) → (xs : List X) → All G xs → Apart xs → length xs ≤ 1
+  pub few_alike : (G : X → Type 0) → ((a b : X) → G a → G b → eq a b ≡ true) → (xs : List X) → AllByRecursion G xs → Apart xs → length xs ≤ 1
   few_alike G h [] g a = omega arith
   few_alike G h (x ∷ []) g a = omega arith
   few_alike G h (x ∷ y ∷ ys) g a = absurd (both_ways _ a.0.0 (h x y g.0 g.1.0))

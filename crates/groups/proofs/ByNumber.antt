@@ -2,7 +2,7 @@
 -- is worked out under two nestings is the same where they agree on the patterns that are met.
 use Rattle.std.proofs.Common.{◌≡◌, ℕ, zero, suc, ◌+◌, ◌<◌, ◌≤◌, Bool, true, not, ◌&&◌, ◌||◌, eqb, List, [], ◌∷◌, map, length, filter, sym, refl, ap, ◌∙◌, subst, ap₂, arith}
 use mathlib.Core.List.{map-map}
-use Rattle.std.specs.List.{flat_map, AllByRecursion as All}
+use Rattle.std.specs.List.{flat_map, AllByRecursion}
 use Rattle.std.proofs.lemmas.List.{length-map}
 use Rattle.std.proofs.ByRecursion.{All-map, All-weaker, all_kept_by}
 use Rattle.std.proofs.lemmas.Bool.{eqb-true, eq-eqb}
@@ -18,15 +18,15 @@ use Rattle.groups.proofs.Visits.{lies_from}
 use Rattle.groups.proofs.Carry.{pulled, used_moved, keys_moved, sorted_image}
 
 module _ {X : Type 0} where
-  any_alike : (s t : X → Bool) (xs : List X) → All (λ x. s x ≡ t x) xs → any s xs ≡ any t xs
+  any_alike : (s t : X → Bool) (xs : List X) → AllByRecursion (λ x. s x ≡ t x) xs → any s xs ≡ any t xs
   any_alike s t [] h = refl
   any_alike s t (x ∷ xs) h = ap₂ ◌||◌ h.0 (any_alike s t xs h.1)
 
-  map_itself : (f : X → X) (xs : List X) → All (λ x. f x ≡ x) xs → map f xs ≡ xs
+  map_itself : (f : X → X) (xs : List X) → AllByRecursion (λ x. f x ≡ x) xs → map f xs ≡ xs
   map_itself f [] h = refl
   map_itself f (x ∷ xs) h = ap₂ ◌∷◌ h.0 (map_itself f xs h.1)
 
-  once_alike : (F : X → Type 0) (s t : X → X → Bool) → ((x y : X) → F x → F y → s x y ≡ t x y) → (xs : List X) → All F xs → once s xs ≡ once t xs
+  once_alike : (F : X → Type 0) (s t : X → X → Bool) → ((x y : X) → F x → F y → s x y ≡ t x y) → (xs : List X) → AllByRecursion F xs → once s xs ≡ once t xs
   once_alike F s t e [] h = refl
   once_alike F s t e (x ∷ xs) h =
       ap (λ l. x ∷ filter (λ y. not (s x y)) l) (once_alike F s t e xs h.1)
@@ -46,20 +46,20 @@ module _
     {P : ℕ → Type 0} (N M : Nesting P) (F : (i : ℕ) → P i → Type 0)
     (agree : (i : ℕ) → i < 5 → (a b : P i) → F i a → F i b → N.within i a b ≡ M.within i a b)
   where
-    all_at : (i : ℕ) (rs : List (Rule P)) → All (With F) rs → All (F i) (map (λ r. r.at i) rs)
+    all_at : (i : ℕ) (rs : List (Rule P)) → AllByRecursion (With F) rs → AllByRecursion (F i) (map (λ r. r.at i) rs)
     all_at i rs h = All-map (F i) (λ r. r.at i) rs (All-weaker (With F) _ (λ r k. k i) rs h)
 
-    used_alike : (i : ℕ) → i < 5 → (rs : List (Rule P)) → All (With F) rs → used N i rs ≡ used M i rs
+    used_alike : (i : ℕ) → i < 5 → (rs : List (Rule P)) → AllByRecursion (With F) rs → used N i rs ≡ used M i rs
     used_alike i l rs h = once_alike (F i) _ _ (λ a b f g. ap₂ ◌&&◌ (agree i l a b f g) (agree i l b a g f)) _ (all_at i rs h)
 
     lies_alike : (n i : ℕ) → i + n ≤ 5 → (k : Combination P i n) → Places F i n k → (r : Rule P) → With F r → lies_from N i n k r ≡ lies_from M i n k r
     lies_alike zero i l k f r h = refl
     lies_alike (suc n) i l k f r h = ap₂ ◌&&◌ (agree i (omega arith) k.0 (r.at i) f.0 (h i)) (lies_alike n (suc i) (omega arith) k.1 f.1 r h)
 
-    all_combined : (rs : List (Rule P)) → All (With F) rs → All (Places F 0 5) (combinations (λ i. used N i rs) 0 5)
+    all_combined : (rs : List (Rule P)) → AllByRecursion (With F) rs → AllByRecursion (Places F 0 5) (combinations (λ i. used N i rs) 0 5)
     all_combined rs h = all_combinations F (λ i. used N i rs) 5 0 (λ i _. all_once (F i) _ _ (all_at i rs h))
 
-    keys_alike : (rs : List (Rule P)) → All (With F) rs → keys N rs ≡ keys M rs
+    keys_alike : (rs : List (Rule P)) → AllByRecursion (With F) rs → keys N rs ≡ keys M rs
     keys_alike rs h =
         kept_same _ _ _ (All-weaker (Places F 0 5) (λ k. any (lies N k) rs ≡ any (lies M k) rs)
         (λ k f. any_alike (lies N k) (lies M k) rs (All-weaker (With F) _ (λ r. lies_alike 5 0 (omega arith) k f r) rs h)) _ (all_combined rs h))
@@ -73,7 +73,7 @@ module _ {P : ℕ → Type 0} (N : Nesting P) (rule : ℕ → Rule P) (M : Nesti
   abbrev low : Nesting (λ _. ℕ)
   low = pulled (λ i n. (rule n).at i) (λ _. 0) N.within
 
-  of_all : (F : ℕ → Type 0) → All F ms → (n : ℕ) → In n → F n
+  of_all : (F : ℕ → Type 0) → AllByRecursion F ms → (n : ℕ) → In n → F n
   of_all F f n h = any_out F (eqb n) (F n) (λ m g e. subst F (sym (eqb-true n m e)) g) ms f h
 
   agree : (i : ℕ) → i < 5 → (n m : ℕ) → In n → In m → M.within i n m ≡ low.within i n m
@@ -85,7 +85,7 @@ module _ {P : ℕ → Type 0} (N : Nesting P) (rule : ℕ → Rule P) (M : Nesti
   abbrev renumber : Rule (λ _. ℕ) → ℕ
   renumber r = (rule r.number).number
 
-  all_numbered : (ns : List ℕ) → Among ms ns → All (With (λ _. In)) (map numbered ns)
+  all_numbered : (ns : List ℕ) → Among ms ns → AllByRecursion (With (λ _. In)) (map numbered ns)
   all_numbered ns h = All-map _ numbered ns (All-weaker In _ (λ n k i. k) ns h)
 
   used_numbers : (ns : List ℕ) → Among ms ns → (i : ℕ) → i < 5 → used N i (map rule ns) ≡ map (λ n. (rule n).at i) (used M i (map numbered ns))
@@ -104,7 +104,7 @@ module _ {P : ℕ → Type 0} (N : Nesting P) (rule : ℕ → Rule P) (M : Nesti
   abbrev Known : Rule (λ _. ℕ) → Type 0
   Known r = In r.number × (numbered r.number ≡ r)
 
-  count_numbers : (qs : List (Rule (λ _. ℕ))) → All Known qs → length (keys N (map (λ r. rule r.number) qs)) ≡ length (keys M qs)
+  count_numbers : (qs : List (Rule (λ _. ℕ))) → AllByRecursion Known qs → length (keys N (map (λ r. rule r.number) qs)) ≡ length (keys M qs)
   count_numbers qs h =
       let ns = map (λ r. r.number) qs in
       ap (λ l. length (keys N l)) (sym (map-map rule (λ r. r.number) qs))

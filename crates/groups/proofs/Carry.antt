@@ -3,7 +3,7 @@
 use Rattle.std.proofs.Common.{◌≡◌, ℕ, zero, suc, ◌+◌, ◌-◌, Bool, true, false, cond, not, ◌&&◌, eqb, leb, List, [], ◌∷◌, ◌++◌, map, length, fold, filter, sym, refl, ap, ◌∙◌, ap₂, subst₂}
 use mathlib.Core.Path.{fun_ext}
 use mathlib.Core.List.{map-map}
-use Rattle.std.specs.List.{flat_map, AllByRecursion as All}
+use Rattle.std.specs.List.{flat_map, AllByRecursion}
 use Rattle.std.proofs.lemmas.List.{map-append, length-map, map_push}
 use Rattle.std.proofs.ByRecursion.{all_kept_by, All-push, All-weaker}
 use Rattle.std.proofs.lemmas.Bool.{cond_both}
@@ -47,15 +47,15 @@ module _ {X Y : Type 0} (f : X → Y) where
 -- as their images.
 module _
     {P Q : ℕ → Type 0} (N : Nesting P) (M : Nesting Q) (f : Rule P → Rule Q) (I : Rule P → Type 0) (sub : Rule P → ℕ) (sub' : Rule Q → ℕ)
-    (count : (qs : List (Rule P)) → All I qs → length (keys M (map f qs)) ≡ length (keys N qs)) (like : (r : Rule P) → I r → sub' (f r) ≡ sub r) (t : ℕ)
+    (count : (qs : List (Rule P)) → AllByRecursion I qs → length (keys M (map f qs)) ≡ length (keys N qs)) (like : (r : Rule P) → I r → sub' (f r) ≡ sub r) (t : ℕ)
   where
     abbrev image : Sorted P → Sorted Q
     image s = record { taken = map f s.taken; total = s.total; shelf = map f s.shelf }
 
-    members_image : (r : Rule P) → I r → (qs : List (Rule P)) → All I qs → members sub' (sub' (f r)) (map f qs) ≡ map f (members sub (sub r) qs)
+    members_image : (r : Rule P) → I r → (qs : List (Rule P)) → AllByRecursion I qs → members sub' (sub' (f r)) (map f qs) ≡ map f (members sub (sub r) qs)
     members_image r h qs hs = kept_map f (λ q. eqb (sub' q) (sub' (f r))) qs ∙ ap (map f) (kept_same _ _ qs (All-weaker I _ (λ q k. ap₂ eqb (like q k) (like r h)) qs hs))
 
-    growth_image : (qs : List (Rule P)) → All I qs → (r : Rule P) → I r → growth M sub' (map f qs) (f r) ≡ growth N sub qs r
+    growth_image : (qs : List (Rule P)) → AllByRecursion I qs → (r : Rule P) → I r → growth M sub' (map f qs) (f r) ≡ growth N sub qs r
     growth_image qs hs r h =
         let m = members sub (sub r) qs in
         let hm = all_kept_by (λ q. eqb (sub q) (sub r)) I qs hs in
@@ -66,7 +66,7 @@ module _
     outcome s n a b =
         cond (leb n t && leb (s.total + n) most_keys) (record { taken = a; total = s.total + n; shelf = map f s.shelf }) (record { taken = map f s.taken; total = s.total; shelf = b })
 
-    step_image : (s : Sorted P) → All I s.taken → (r : Rule P) → I r → sort_rule M sub' t (image s) (f r) ≡ image (sort_rule N sub t s r)
+    step_image : (s : Sorted P) → AllByRecursion I s.taken → (r : Rule P) → I r → sort_rule M sub' t (image s) (f r) ≡ image (sort_rule N sub t s r)
     unfolding outcome
     step_image s hs r h =
         let n = growth N sub s.taken r in
@@ -74,13 +74,13 @@ module _
         ∙ ap₂ (outcome s n) (sym (map_push f s.taken r)) (sym (map_push f s.shelf r))
         ∙ cond_map image (leb n t && leb (s.total + n) most_keys) (record { taken = s.taken ++ r ∷ []; total = s.total + n; shelf = s.shelf }) (record { taken = s.taken; total = s.total; shelf = s.shelf ++ r ∷ [] })
 
-    folded_image : (qs : List (Rule P)) → All I qs → (s : Sorted P) → All I s.taken → fold (sort_rule M sub' t) (image s) (map f qs) ≡ image (fold (sort_rule N sub t) s qs)
+    folded_image : (qs : List (Rule P)) → AllByRecursion I qs → (s : Sorted P) → AllByRecursion I s.taken → fold (sort_rule M sub' t) (image s) (map f qs) ≡ image (fold (sort_rule N sub t) s qs)
     folded_image [] h s hs = refl
     folded_image (q ∷ qs) h s hs =
         ap (λ u. fold (sort_rule M sub' t) u (map f qs)) (step_image s hs q h.0)
-        ∙ folded_image qs h.1 (sort_rule N sub t s q) (cond_both _ _ _ (λ (u : Sorted P). All I u.taken) (λ _. All-push I s.taken q hs h.0) (λ _. hs))
+        ∙ folded_image qs h.1 (sort_rule N sub t s q) (cond_both _ _ _ (λ (u : Sorted P). AllByRecursion I u.taken) (λ _. All-push I s.taken q hs h.0) (λ _. hs))
 
-    pub sorted_image : (qs : List (Rule P)) → All I qs → sorted_by M sub' t (map f qs) ≡ image (sorted_by N sub t qs)
+    pub sorted_image : (qs : List (Rule P)) → AllByRecursion I qs → sorted_by M sub' t (map f qs) ≡ image (sorted_by N sub t qs)
     sorted_image qs h = folded_image qs h (record { taken = []; total = 0; shelf = [] }) tt
 
 module _ {P Q : ℕ → Type 0} (f : (i : ℕ) → P i → Q i) where

@@ -1,7 +1,7 @@
 -- Combinations, place by place.
 use Rattle.std.proofs.Common.{◌≡◌, ℕ, zero, suc, ◌+◌, ◌<◌, ◌≤◌, Bool, true, false, ◌&&◌, List, [], ◌∷◌, map, length, refl, ap, ◌∙◌, arith}
 use mathlib.Core.Path.{fun_ext}
-use Rattle.std.specs.List.{flat_map, AllByRecursion as All}
+use Rattle.std.specs.List.{flat_map, AllByRecursion}
 use Rattle.std.proofs.ByRecursion.{All-map, All-weaker}
 use Rattle.std.proofs.lemmas.List.{append-nil, length-map}
 use Rattle.std.proofs.lemmas.Bool.{and_from, and_parts, and_left, and_right, or_left}
@@ -25,7 +25,7 @@ module _ {P : ℕ → Type 0} where
   holds_true q zero i k h = refl
   holds_true q (suc n) i k h = and_from _ _ h.0 (holds_true q n (suc i) k.1 h.1)
 
-  pub all_combinations : (F : (i : ℕ) → P i → Type 0) (f : (i : ℕ) → List (P i)) (n i : ℕ) → ((j : ℕ) → j < i + n → All (F j) (f j)) → All (Places F i n) (combinations f i n)
+  pub all_combinations : (F : (i : ℕ) → P i → Type 0) (f : (i : ℕ) → List (P i)) (n i : ℕ) → ((j : ℕ) → j < i + n → AllByRecursion (F j) (f j)) → AllByRecursion (Places F i n) (combinations f i n)
   all_combinations F f zero i h = (tt, tt)
   all_combinations F f (suc n) i h =
       all_joined (Places F i (suc n)) _ (f i)
@@ -82,7 +82,7 @@ module _ {P : ℕ → Type 0} where
     apart_joined i n [] ks a b = tt
     apart_joined i n (x ∷ xs) ks a b =
         let F : Combination P (suc i) n → Combination P i (suc n) → Type 0 = λ k m. along eq i (suc n) (x, k) m ≡ false in
-        let others : (k : Combination P (suc i) n) → All (F k) (flat_map (λ y. map (λ m. (y, m)) ks) xs) = λ k. all_joined (F k) _ xs (All-weaker _ (λ y. All (F k) (map (λ m. (y, m)) ks)) (λ y h. All-map (F k) (λ m. (y, m)) ks (everywhere _ (λ m. and_left (eq i x y) _ h) ks)) xs a.0) in
+        let others : (k : Combination P (suc i) n) → AllByRecursion (F k) (flat_map (λ y. map (λ m. (y, m)) ks) xs) = λ k. all_joined (F k) _ xs (All-weaker _ (λ y. AllByRecursion (F k) (map (λ m. (y, m)) ks)) (λ y h. All-map (F k) (λ m. (y, m)) ks (everywhere _ (λ m. and_left (eq i x y) _ h) ks)) xs a.0) in
         apart_append (along eq i (suc n)) (map (λ k. (x, k)) ks) _ (apart_map i n x ks b) (apart_joined i n xs ks a.1 b) (All-map _ (λ k. (x, k)) ks (everywhere _ others ks))
 
     pub apart_combinations : (f : (i : ℕ) → List (P i)) → ((i : ℕ) → Apart (eq i) (f i)) → (n i : ℕ) → Apart (along eq i n) (combinations f i n)

@@ -2,7 +2,7 @@
 use Rattle.std.proofs.Common.{◌≡◌, ℕ, ◌≤◌, Bool, true, ◌&&◌, ◌||◌, List, [], ◌∷◌, map, length, filter, sym, refl, ap, ◌∙◌, inl, inr}
 use mathlib.Core.Path.{fun_ext}
 use mathlib.Core.Bool.{false≢true}
-use Rattle.std.specs.List.{ContainsAt as Has, AllByRecursion as All}
+use Rattle.std.specs.List.{ContainsAt as Has, AllByRecursion}
 use Rattle.std.proofs.lemmas.Bool.{and_from, and_parts, or_cases, or_right}
 use Rattle.std.proofs.ByRecursion.{all_kept_by, kept_by_passes, All-weaker, all-has, all_has_itself}
 use Rattle.fields.specs.Lists.{any, all}
@@ -19,7 +19,7 @@ use Rattle.groups.proofs.OneTuple.{same_itself, used_found}
 
 -- of things of which always one lies within the other one lies within all
 module _ {X : Type 0} (w : X → X → Bool) (self : (a : X) → w a a ≡ true) (trans : (a b c : X) → w a b ≡ true → w b c ≡ true → w a c ≡ true) (M : X → Type 0) (nested : (a b : X) → M a → M b → (w a b || w b a) ≡ true) where
-  least : (x : X) (xs : List X) → All M (x ∷ xs) → any (λ p. all (w p) (x ∷ xs)) (x ∷ xs) ≡ true
+  least : (x : X) (xs : List X) → AllByRecursion M (x ∷ xs) → any (λ p. all (w p) (x ∷ xs)) (x ∷ xs) ≡ true
   least x [] m = let e = self x in rw e refl
   least x (y ∷ ys) m =
       let ys⁺ = y ∷ ys in
@@ -30,7 +30,7 @@ module _ {X : Type 0} (w : X → X → Bool) (self : (a : X) → w a a ≡ true)
       ])
       ys⁺ (all_with M (Found ys⁺) (λ p. M p × Found ys⁺ p) (λ p a b. (a, b)) ys⁺ m.1 (all_found ys⁺)) (least y ys m.1)
 
-  any_least : (t : X → Bool) (xs : List X) → All M xs → any t xs ≡ true → any (λ p. all (w p) xs) xs ≡ true
+  any_least : (t : X → Bool) (xs : List X) → AllByRecursion M xs → any t xs ≡ true → any (λ p. all (w p) xs) xs ≡ true
   any_least t [] m h = absurd (false≢true h)
   any_least t (x ∷ xs) m h = least x xs m
 
@@ -39,7 +39,7 @@ module _ {P V : ℕ → Type 0} (N : Nesting P) (L : Nests N) (matches : (i : �
   abbrev ms : (i : ℕ) → List (P i)
   ms i = filter (λ p. matches i p (v i)) (used N i rs)
 
-  ms_match : (i : ℕ) → All (λ p. matches i p (v i) ≡ true) (ms i)
+  ms_match : (i : ℕ) → AllByRecursion (λ p. matches i p (v i) ≡ true) (ms i)
   ms_match i = kept_by_passes (λ p. matches i p (v i)) (used N i rs)
 
   place : (q : Rule P) → Found rs q → (i : ℕ) → any (λ p. N.within i p (q.at i)) (own N matches v rs i) ≡ matches i (q.at i) (v i)
@@ -53,12 +53,12 @@ module _ {P V : ℕ → Type 0} (N : Nesting P) (L : Nests N) (matches : (i : �
       (λ p h. any_out (λ s. N.within i p s ≡ true) (λ s. same (N.within i) s (q.at i)) _ (λ s w e. L.trans i p s (q.at i) w (and_parts _ _ e).0) (ms i) ((all_is (N.within i p) (ms i)).0 h) near) _
       (any_kept B B (λ p h. h) (ms i) inmost))
 
-  each : All (λ r. meets N matches v r ≡ any (λ k. lies N k r) (key N matches v rs)) rs
+  each : AllByRecursion (λ r. meets N matches v r ≡ any (λ k. lies N k r) (key N matches v rs)) rs
   each = All-weaker (Found rs) _ (λ q f. sym (any_along (λ i x y. N.within i y x) (own N matches v rs) 5 0 (combine q.at 0 5) ∙ ap (λ t. every t 0 5) (fun_ext (place q f)))) rs (all_found rs)
 
   few_own : (i : ℕ) → length (own N matches v rs i) ≤ 1
   few_own i =
-      let G : P i → Type 0 = λ p. Has (ms i) p × All (λ q. N.within i p q ≡ true) (ms i) in
+      let G : P i → Type 0 = λ p. Has (ms i) p × AllByRecursion (λ q. N.within i p q ≡ true) (ms i) in
       few_alike (same (N.within i)) G (λ a b f g. and_from _ _ (all-has _ (ms i) b f.1 g.0) (all-has _ (ms i) a g.1 f.0)) (own N matches v rs i)
       (all_with (Has (ms i)) (λ p. all (N.within i p) (ms i) ≡ true) G (λ p a b. (a, (all_is (N.within i p) (ms i)).0 b)) _ (all_kept_by _ (Has (ms i)) (ms i) (all_has_itself (ms i))) (kept_by_passes (λ p. all (N.within i p) (ms i)) (ms i)))
       (apart_kept (same (N.within i)) _ (ms i) (apart_kept (same (N.within i)) (λ p. matches i p (v i)) (used N i rs) (apart_once (same (N.within i)) (map (λ r. r.at i) rs))))
@@ -75,7 +75,7 @@ module _ {P V : ℕ → Type 0} (N : Nesting P) (L : Nests N) (matches : (i : �
       (any_kept t _ (λ l b. (and_parts (same_key N k l) _ b).1) _ (f t (and_from _ _ (along_self (λ i. same (N.within i)) (same_itself N L) 5 0 k) h))))
 
   -- the key is of patterns in use
-  key_found : All (λ k. Found (combinations (λ i. used N i rs) 0 5) k × Found (key N matches v rs) k) (key N matches v rs)
+  key_found : AllByRecursion (λ k. Found (combinations (λ i. used N i rs) 0 5) k × Found (key N matches v rs) k) (key N matches v rs)
   key_found =
       all_with _ (Found (key N matches v rs)) _ (λ k a b. (found_along (λ i. used N i rs) 5 0 k a, b)) (key N matches v rs)
       (all_combinations (λ i. Found (used N i rs)) (own N matches v rs) 5 0 (λ i _. all_kept_by _ _ _ (all_kept_by _ _ _ (all_found (used N i rs))))) (all_found (key N matches v rs))

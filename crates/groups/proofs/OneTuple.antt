@@ -2,7 +2,7 @@
 use Rattle.std.proofs.Common.{◌≡◌, ℕ, zero, suc, ◌+◌, ◌<◌, ◌≤◌, true, false, not, List, [], ◌∷◌, ◌++◌, map, length, sym, refl, ap, ◌∙◌, subst, inl, inr, arith}
 use mathlib.Core.Path.{fun_ext}
 use mathlib.Core.Bool.{false≢true}
-use Rattle.std.specs.List.{AllByRecursion as All}
+use Rattle.std.specs.List.{AllByRecursion}
 use Rattle.std.proofs.ByRecursion.{all_kept_by, kept_by_passes, All-map, All-weaker, All-push}
 use Rattle.std.proofs.lemmas.Bool.{and_from, and_parts, or_cases, or_left, or_right, cases_eq}
 use Rattle.fields.specs.Lists.{any}
@@ -68,7 +68,7 @@ module _ {P : ℕ → Type 0} (N : Nesting P) (L : Nests N) where
         | inr n ↦ elim (or_cases _ _ n) [ inl e ↦ or_left _ _ e | inr e ↦ absurd (false≢true e) ]
       ]
 
-  module _ (all rs : List (Rule P)) (r : Rule P) (m : All (Marks N all) rs) (e : All (λ q. tuple N all q ≡ tuple N all r) rs) where
+  module _ (all rs : List (Rule P)) (r : Rule P) (m : AllByRecursion (Marks N all) rs) (e : AllByRecursion (λ q. tuple N all q ≡ tuple N all r) rs) where
     abbrev T : ℕ → ℕ
     T j = level_at N all j (r.at j)
 
@@ -83,16 +83,16 @@ module _ {P : ℕ → Type 0} (N : Nesting P) (L : Nests N) where
         and_from _ _ (levels_tell_lem N L all i k.0 (q.at i) (ms i) w.0 (f.0 ∙ sym (ls i (omega arith)))) (own q ms ls n (suc i) (omega arith) k.1 f.1 w.1)
 
     -- each key is the five patterns of a rule
-    rule_keys : All (λ k. any (λ q. same_key N k (combine q.at 0 5)) rs ≡ true) (keys N rs)
+    rule_keys : AllByRecursion (λ k. any (λ q. same_key N k (combine q.at 0 5)) rs ≡ true) (keys N rs)
     rule_keys =
         let G : Rule P → Type 0 = λ q. Marks N all q × (tuple N all q ≡ tuple N all r) in
         let F : (j : ℕ) → P j → Type 0 = λ j p. level_at N all j p ≡ T j in
-        let good : All G rs = all_with _ _ G (λ q a b. (a, b)) rs m e in
-        let levels : All (Places F 0 5) (combinations (λ i. used N i rs) 0 5) = all_combinations F _ 5 0 (λ j l. all_once (F j) (same (N.within j)) _ (All-map (F j) (λ q. q.at j) rs (All-weaker _ (λ q. F j (q.at j)) (λ q h. level_of q h j (omega arith)) rs e))) in
+        let good : AllByRecursion G rs = all_with _ _ G (λ q a b. (a, b)) rs m e in
+        let levels : AllByRecursion (Places F 0 5) (combinations (λ i. used N i rs) 0 5) = all_combinations F _ 5 0 (λ j l. all_once (F j) (same (N.within j)) _ (All-map (F j) (λ q. q.at j) rs (All-weaker _ (λ q. F j (q.at j)) (λ q h. level_of q h j (omega arith)) rs e))) in
         all_with (Places F 0 5) (λ k. any (lies N k) rs ≡ true) _ (λ k f h. any_on G _ _ (λ q g. own q g.0 (level_of q g.1) 5 0 (omega arith) k f) rs good h) (keys N rs)
         (all_kept_by _ (Places F 0 5) _ levels) (kept_by_passes (λ k. any (lies N k) rs) _)
 
-  pub one_more : (all rs : List (Rule P)) (r : Rule P) → All (Marks N all) rs → Marks N all r → All (λ q. tuple N all q ≡ tuple N all r) rs → length (keys N (rs ++ r ∷ [])) ≤ length (keys N rs) + 1
+  pub one_more : (all rs : List (Rule P)) (r : Rule P) → AllByRecursion (Marks N all) rs → Marks N all r → AllByRecursion (λ q. tuple N all q ≡ tuple N all r) rs → length (keys N (rs ++ r ∷ [])) ≤ length (keys N rs) + 1
   one_more all rs r ms m es =
       let more = rs ++ r ∷ [] in
       let old = combine r.at 0 5 ∷ keys N rs in

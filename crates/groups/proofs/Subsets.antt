@@ -1,6 +1,6 @@
 -- With as many subsets as tuples no rule is shelved, and no subset has a pseudo-rule.
 use Rattle.std.proofs.Common.{◌≡◌, ℕ, ◌+◌, ◌≤◌, false, eqb, List, [], ◌∷◌, ◌++◌, map, length, get_or, fold, sym, refl, ap, ◌∙◌, subst, arith}
-use Rattle.std.specs.List.{AllByRecursion as All}
+use Rattle.std.specs.List.{AllByRecursion}
 use Rattle.std.proofs.lemmas.Bool.{and_from, or_right, le-leb, eqb-true, cond-true}
 use Rattle.std.proofs.ByRecursion.{all_kept_by, kept_by_passes, All-weaker, All-push}
 use Rattle.levels.specs.Levels.{same}
@@ -29,7 +29,7 @@ module _ {P : ℕ → Type 0} (N : Nesting P) (L : Nests N) (rs : List (Rule P))
       ∙ any_once (equal t) equal (λ x y e h. equal_from t x (equal_is t y h ∙ sym (equal_is x y e))) (map (tuple N rs) rs) (any_map (equal t) (tuple N rs) rs ∙ f (λ r. equal t (tuple N rs r)) (equal_from t t refl)))
 
   -- rules of a tuple t have no pseudo-rule
-  alike_keys : (t : List ℕ) (qs : List (Rule P)) → All (Marks N rs) qs → All (λ q. tuple N rs q ≡ t) qs → All (λ k. pseudo N qs k ≡ false) (keys N qs)
+  alike_keys : (t : List ℕ) (qs : List (Rule P)) → AllByRecursion (Marks N rs) qs → AllByRecursion (λ q. tuple N rs q ≡ t) qs → AllByRecursion (λ k. pseudo N qs k ≡ false) (keys N qs)
   alike_keys t [] m e = tt
   alike_keys t (q ∷ qs) m e = one_tuple_lem N L rs (q ∷ qs) q m (All-weaker _ (λ p. tuple N rs p ≡ tuple N rs q) (λ p f. f ∙ sym e.0) (q ∷ qs) e)
 
@@ -39,22 +39,22 @@ module _ {P : ℕ → Type 0} (N : Nesting P) (L : Nests N) (rs : List (Rule P))
     Good q = Marks N rs q × (get_or hs (sub q) [] ≡ tuple N rs q)
 
     -- the rules of subset s have one tuple
-    alike : (s : ℕ) (qs : List (Rule P)) → All Good qs → All (λ q. tuple N rs q ≡ get_or hs s []) (members sub s qs)
+    alike : (s : ℕ) (qs : List (Rule P)) → AllByRecursion Good qs → AllByRecursion (λ q. tuple N rs q ≡ get_or hs s []) (members sub s qs)
     alike s qs a = all_with Good _ (λ q. tuple N rs q ≡ get_or hs s []) (λ q k e. sym k.1 ∙ ap (λ u. get_or hs u []) (eqb-true _ _ e)) _ (all_kept_by _ Good qs a) (kept_by_passes (λ q. eqb (sub q) s) qs)
 
-    marked_members : (s : ℕ) (qs : List (Rule P)) → All Good qs → All (Marks N rs) (members sub s qs)
+    marked_members : (s : ℕ) (qs : List (Rule P)) → AllByRecursion Good qs → AllByRecursion (Marks N rs) (members sub s qs)
     marked_members s qs a = all_kept_by _ (Marks N rs) qs (All-weaker Good (Marks N rs) (λ q k. k.0) qs a)
 
-    grows : (qs : List (Rule P)) (r : Rule P) → All Good qs → Good r → growth N sub qs r ≤ 1
+    grows : (qs : List (Rule P)) (r : Rule P) → AllByRecursion Good qs → Good r → growth N sub qs r ≤ 1
     grows qs r a h =
         let m = members sub (sub r) qs in
         let few = one_more N L rs m r (marked_members (sub r) qs a) h.0 (All-weaker _ (λ q. tuple N rs q ≡ tuple N rs r) (λ q e. e ∙ h.1) m (alike (sub r) qs a)) in
         omega arith
 
     Kept : Sorted P → Type 0
-    Kept s = (s.shelf ≡ []) × All Good s.taken
+    Kept s = (s.shelf ≡ []) × AllByRecursion Good s.taken
 
-    keeps : (t : ℕ) → 1 ≤ t → (qs : List (Rule P)) (s : Sorted P) → All Good qs → s.total + length qs ≤ 256 → Kept s → Kept (fold (sort_rule N sub t) s qs)
+    keeps : (t : ℕ) → 1 ≤ t → (qs : List (Rule P)) (s : Sorted P) → AllByRecursion Good qs → s.total + length qs ≤ 256 → Kept s → Kept (fold (sort_rule N sub t) s qs)
     unfolding Kept
     keeps t one [] s a l k = k
     keeps t one (q ∷ qs) s a l k =

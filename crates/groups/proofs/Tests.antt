@@ -1,7 +1,7 @@
 -- Tests over lists.
 use Rattle.std.proofs.Common.{◌≡◌, ◌≤◌, Bool, true, false, cond, not, ◌&&◌, ◌||◌, List, [], ◌∷◌, ◌++◌, map, length, Decides, filter, sym, refl, ap, ◌∙◌, arith}
 use mathlib.Core.Bool.{false≢true}
-use Rattle.std.specs.List.{flat_map, AllByRecursion as All}
+use Rattle.std.specs.List.{flat_map, AllByRecursion}
 use Rattle.std.proofs.ByRecursion.{all_kept_by, All-append, All-weaker, Decides-by_and}
 use Rattle.std.proofs.lemmas.Bool.{and_from, or_left, or_right, both_ways}
 use Rattle.std.proofs.lemmas.Bool.Decides.{same_from_decides}
@@ -26,27 +26,27 @@ or_and true false false = refl
 or_and false b c = refl
 
 module _ {X : Type 0} where
-  pub all_with : (F G H : X → Type 0) → ((x : X) → F x → G x → H x) → (xs : List X) → All F xs → All G xs → All H xs
+  pub all_with : (F G H : X → Type 0) → ((x : X) → F x → G x → H x) → (xs : List X) → AllByRecursion F xs → AllByRecursion G xs → AllByRecursion H xs
   all_with F G H s [] f g = tt
   all_with F G H s (x ∷ xs) f g = (s x f.0 g.0, all_with F G H s xs f.1 g.1)
 
-  pub all_once : (F : X → Type 0) (eq : X → X → Bool) (xs : List X) → All F xs → All F (once eq xs)
+  pub all_once : (F : X → Type 0) (eq : X → X → Bool) (xs : List X) → AllByRecursion F xs → AllByRecursion F (once eq xs)
   all_once F eq [] f = tt
   all_once F eq (x ∷ xs) f = (f.0, all_kept_by (λ y. not (eq x y)) F (once eq xs) (all_once F eq xs f.1))
 
-  pub all_is : (p : X → Bool) (xs : List X) → Decides (all p xs) (All (λ x. p x ≡ true) xs)
+  pub all_is : (p : X → Bool) (xs : List X) → Decides (all p xs) (AllByRecursion (λ x. p x ≡ true) xs)
   all_is p xs = Decides-by_and p (λ x. p x ≡ true) (all p) (λ x. ((λ h. h), (λ h. h))) refl (λ _ _. refl) xs
 
   -- x stands in the list: it passes no test that none there passes
   abbrev pub Found : List X → X → Type 0
   Found xs x = (t : X → Bool) → t x ≡ true → any t xs ≡ true
 
-  pub all_found : (xs : List X) → All (Found xs) xs
+  pub all_found : (xs : List X) → AllByRecursion (Found xs) xs
   all_found [] = tt
   all_found (x ∷ xs) = ((λ t h. or_left (t x) _ h), All-weaker (Found xs) (Found (x ∷ xs)) (λ y f t h. or_right (t x) _ (f t h)) xs (all_found xs))
 
   -- what follows from each that passes follows if one does
-  pub any_out : (F : X → Type 0) (p : X → Bool) (C : Type 0) → ((x : X) → F x → p x ≡ true → C) → (xs : List X) → All F xs → any p xs ≡ true → C
+  pub any_out : (F : X → Type 0) (p : X → Bool) (C : Type 0) → ((x : X) → F x → p x ≡ true → C) → (xs : List X) → AllByRecursion F xs → any p xs ≡ true → C
   any_out F p C s [] f h = absurd (false≢true h)
   any_out F p C s (x ∷ xs) f h = go (any_out F p C s xs f.1) (p x) refl h
     where
@@ -54,7 +54,7 @@ module _ {X : Type 0} where
       go ih true e k = s x f.0 e
       go ih false e k = ih k
 
-  pub any_on : (F : X → Type 0) (p q : X → Bool) → ((x : X) → F x → p x ≡ true → q x ≡ true) → (xs : List X) → All F xs → any p xs ≡ true → any q xs ≡ true
+  pub any_on : (F : X → Type 0) (p q : X → Bool) → ((x : X) → F x → p x ≡ true → q x ≡ true) → (xs : List X) → AllByRecursion F xs → any p xs ≡ true → any q xs ≡ true
   any_on F p q s xs f =
       any_out (λ x. F x × Found xs x) p _ (λ x g h. g.1 q (s x g.0 h)) xs (all_with F (Found xs) (λ x. F x × Found xs x) (λ x a b. (a, b)) xs f (all_found xs))
 
@@ -93,7 +93,7 @@ module _ {X : Type 0} where
       go ih false e k = or_right (t x) _ (any_kept t _ (λ y f. ap not (false_from (eq x y) (λ g. both_ways (t x) e (s x y g f)))) (once eq xs) (ih k))
 
 module _ {X Y : Type 0} where
-  pub all_joined : (F : Y → Type 0) (g : X → List Y) (xs : List X) → All (λ x. All F (g x)) xs → All F (flat_map g xs)
+  pub all_joined : (F : Y → Type 0) (g : X → List Y) (xs : List X) → AllByRecursion (λ x. AllByRecursion F (g x)) xs → AllByRecursion F (flat_map g xs)
   all_joined F g [] f = tt
   all_joined F g (x ∷ xs) f = All-append F (g x) (flat_map g xs) f.0 (all_joined F g xs f.1)
 

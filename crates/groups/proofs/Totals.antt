@@ -1,7 +1,7 @@
--- All keys together are those of the subsets.
+-- AllByRecursion keys together are those of the subsets.
 use Rattle.std.proofs.Common.{◌≡◌, ℕ, zero, suc, ◌+◌, ◌<◌, ◌≤◌, Bool, true, false, cond, ◌&&◌, eqb, leb, List, [], ◌∷◌, ◌++◌, map, length, fold, sym, refl, ap, ◌∙◌, ap₂, inl, inr, arith}
 use mathlib.Core.Bool.{false≢true}
-use Rattle.std.specs.List.{range_with_len, flat_map, AllByRecursion as All}
+use Rattle.std.specs.List.{range_with_len, flat_map, AllByRecursion}
 use Rattle.std.proofs.lemmas.Bool.{and_parts, or_left, cases_eq, ne_eqb, eq-eqb, cond_both}
 use Rattle.std.proofs.lemmas.List.{length-append, append-nil}
 use Rattle.std.proofs.lemmas.List.Elements.{filter-append}
@@ -47,7 +47,7 @@ module _ {P : ℕ → Type 0} (N : Nesting P) (L : Nests N) where
   subset_in [] (suc g) q l f = absurd (false≢true (f (λ _. true) refl))
   subset_in (r ∷ rs) (suc g) q l f = nearest_in (tuple N (r ∷ rs) q) _ _
 
-  used_more : (rs : List (Rule P)) (r : Rule P) (i : ℕ) → All (λ p. any (same (N.within i) p) (used N i (rs ++ r ∷ [])) ≡ true) (used N i rs)
+  used_more : (rs : List (Rule P)) (r : Rule P) (i : ℕ) → AllByRecursion (λ p. any (same (N.within i) p) (used N i (rs ++ r ∷ [])) ≡ true) (used N i rs)
   used_more rs r i =
       let s = same (N.within i) in
       let more = rs ++ r ∷ [] in
@@ -89,7 +89,7 @@ module _ {P : ℕ → Type 0} (N : Nesting P) (L : Nests N) where
         cond_both (leb more t && leb (s.total + more) most_keys) _ _ Counted
         (λ _. omega (arith, joined_at (parts old) (parts (old ++ q ∷ [])) (sub q) else n 0 (omega arith) (omega arith), here, keys_grow (members sub (sub q) old) q)) (λ _. c)
 
-    counted : (qs : List (Rule P)) (s : Sorted P) → All (λ q. sub q < n) qs → Counted s → Counted (fold (sort_rule N sub t) s qs)
+    counted : (qs : List (Rule P)) (s : Sorted P) → AllByRecursion (λ q. sub q < n) qs → Counted s → Counted (fold (sort_rule N sub t) s qs)
     counted [] s a c = c
     counted (q ∷ qs) s a c = counted qs (sort_rule N sub t s q) a.1 (counted_step s q a.0 c)
 

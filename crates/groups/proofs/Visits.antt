@@ -2,7 +2,7 @@
 use Rattle.std.proofs.Common.{◌≡◌, ℕ, zero, suc, Bool, List, [], ◌∷◌, ◌++◌, map, filter, sym, refl, ap, ◌∙◌}
 use mathlib.Core.Path.{fun_ext}
 use mathlib.Core.List.{map-map}
-use Rattle.std.specs.List.{flat_map, AllByRecursion as All}
+use Rattle.std.specs.List.{flat_map, AllByRecursion}
 use Rattle.std.proofs.lemmas.List.Elements.{filter-append}
 use Rattle.std.proofs.ByRecursion.{All-map, All-weaker}
 use Rattle.fields.specs.Lists.{any}
@@ -41,7 +41,7 @@ module _ {P : ℕ → Type 0} (N : Nesting P) where
         ∙ sym (kept_joined (λ k. any (lies_from i (suc n) k) (r ∷ rs)) (λ p. map (λ k. (p, k)) rest) (from i))
 
     -- each with the rules that it lies within
-    pub visits_rules : (n i : ℕ) (rs : List (Rule P)) → All (λ v. v.1 ≡ filter (lies_from i n v.0) rs) (visits N from i n rs)
+    pub visits_rules : (n i : ℕ) (rs : List (Rule P)) → AllByRecursion (λ v. v.1 ≡ filter (lies_from i n v.0) rs) (visits N from i n rs)
     visits_rules zero i [] = tt
     visits_rules zero i (r ∷ rs) = (sym (kept_all _ (r ∷ rs) (everywhere _ (λ _. refl) (r ∷ rs))), tt)
     visits_rules (suc n) i [] = tt

@@ -1,6 +1,6 @@
 -- Rules known by their numbers alone: in the place of a pattern stands the number of a rule that has it.
 use Rattle.std.specs.Prelude.{◌≡◌, ℕ, ◌<◌, true, List, map, nat_eq}
-use Rattle.std.specs.List.{AllByRecursion as All}
+use Rattle.std.specs.List.{AllByRecursion}
 use Rattle.fields.specs.Lists.{any}
 use Rattle.groups.specs.Rules.{Nesting, Rule}
 use Rattle.groups.specs.Keys.{Combination, used, lies, keys}
@@ -13,12 +13,12 @@ numbered n = record { number = n; at = λ _. n }
 
 -- each of the numbers ns is one of ms
 abbrev pub Among : List ℕ → List ℕ → Type 0
-Among ms ns = All (λ n. any (nat_eq n) ms ≡ true) ns
+Among ms ns = AllByRecursion (λ n. any (nat_eq n) ms ≡ true) ns
 
 module _ {P : ℕ → Type 0} (N : Nesting P) (rule : ℕ → Rule P) (M : Nesting (λ _. ℕ)) (ms : List ℕ) where
   -- of the rules of the numbers ms, M tells by number what N tells by pattern
   abbrev pub Agrees : Type 0
-  Agrees = (i : ℕ) → i < 5 → All (λ n. All (λ m. M.within i n m ≡ N.within i ((rule n).at i) ((rule m).at i)) ms) ms
+  Agrees = (i : ℕ) → i < 5 → AllByRecursion (λ n. AllByRecursion (λ m. M.within i n m ≡ N.within i ((rule n).at i) ((rule m).at i)) ms) ms
 
   -- the patterns that a combination of numbers stands for
   abbrev pub patterns : Combination (λ _. ℕ) 0 5 → Combination P 0 5
@@ -32,9 +32,9 @@ module _ {P : ℕ → Type 0} (N : Nesting P) (rule : ℕ → Rule P) (M : Nesti
   pub record Lifted : Type 0 where
     pub uses : (ns : List ℕ) → Among ms ns → (i : ℕ) → i < 5 → used N i (map rule ns) ≡ map (λ n. (rule n).at i) (used M i (map numbered ns))
     pub has_keys : (ns : List ℕ) → Among ms ns → keys N (map rule ns) ≡ map patterns (keys M (map numbered ns))
-    pub contains : (ns : List ℕ) → Among ms ns → All (λ k. All (λ n. lies N (patterns k) (rule n) ≡ lies M k (numbered n)) ms) (keys M (map numbered ns))
+    pub contains : (ns : List ℕ) → Among ms ns → AllByRecursion (λ k. AllByRecursion (λ n. lies N (patterns k) (rule n) ≡ lies M k (numbered n)) ms) (keys M (map numbered ns))
     pub sorts :
-        (sub : Rule P → ℕ) (by : Rule (λ _. ℕ) → ℕ) → All (λ n. sub (rule n) ≡ by (numbered n)) ms → (t : ℕ) →
+        (sub : Rule P → ℕ) (by : Rule (λ _. ℕ) → ℕ) → AllByRecursion (λ n. sub (rule n) ≡ by (numbered n)) ms → (t : ℕ) →
         sorted_by N sub t (map rule ms) ≡ as_rules (sorted_by M by t (map numbered ms))
 
 abbrev pub IsByNumber : (ℕ → Type 0) → Type 0

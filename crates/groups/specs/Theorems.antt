@@ -1,6 +1,6 @@
 -- What holds of the grouping, over all rules and patterns that nest.
 use Rattle.std.specs.Prelude.{◌≡◌, ℕ, zero, suc, ◌≤◌, Bool, true, false, ◌||◌, List, [], map, length, filter}
-use Rattle.std.specs.List.{range_with_len, flat_map, AllByRecursion as All}
+use Rattle.std.specs.List.{range_with_len, flat_map, AllByRecursion}
 use Rattle.fields.specs.Lists.{any}
 use Rattle.levels.specs.Levels.{same, marked}
 use Rattle.groups.specs.Rules.{Nesting, Rule}
@@ -29,13 +29,13 @@ LevelsTell P =
 -- rules of one tuple have no pseudo-rule
 abbrev pub OneTuple : (ℕ → Type 0) → Type 0
 OneTuple P =
-    (N : Nesting P) → Nests N → (all rs : List (Rule P)) (r : Rule P) → All (Marks N all) rs → All (λ q. tuple N all q ≡ tuple N all r) rs →
-    All (λ k. pseudo N rs k ≡ false) (keys N rs)
+    (N : Nesting P) → Nests N → (all rs : List (Rule P)) (r : Rule P) → AllByRecursion (Marks N all) rs → AllByRecursion (λ q. tuple N all q ≡ tuple N all r) rs →
+    AllByRecursion (λ k. pseudo N rs k ≡ false) (keys N rs)
 
 -- where the tuples are no more than the subset limit, the shelf is empty and no key is a pseudo-rule
 pub record Exact {P : ℕ → Type 0} (N : Nesting P) (g t : ℕ) (rs : List (Rule P)) : Type 0 where
   pub no_shelf : shelf N g t rs ≡ []
-  pub no_pseudo : (s : ℕ) → All (λ k. pseudo N (taken_into N g t rs s) k ≡ false) (keys N (taken_into N g t rs s))
+  pub no_pseudo : (s : ℕ) → AllByRecursion (λ k. pseudo N (taken_into N g t rs s) k ≡ false) (keys N (taken_into N g t rs s))
 
 abbrev pub EnoughSubsets : (ℕ → Type 0) → Type 0
 EnoughSubsets P =
@@ -49,7 +49,7 @@ pub record Fits {P V : ℕ → Type 0} (N : Nesting P) (matches : (i : ℕ) → 
 -- of a header: a rule of the subset matches exactly if the subset's key lies within it; the subset has one key at most, and is a hit exactly if
 -- one of its rules matches
 pub record Tells {P V : ℕ → Type 0} (N : Nesting P) (matches : (i : ℕ) → P i → V i → Bool) (v : (i : ℕ) → V i) (rs : List (Rule P)) : Type 0 where
-  pub each : All (λ r. meets N matches v r ≡ any (λ k. lies N k r) (key N matches v rs)) rs
+  pub each : AllByRecursion (λ r. meets N matches v r ≡ any (λ k. lies N k r) (key N matches v rs)) rs
   pub one : length (key N matches v rs) ≤ 1
   pub hits : hit N matches v rs ≡ any (meets N matches v) rs
 
@@ -66,7 +66,7 @@ TotalCounts P =
 -- place by place, the keys of some rules are met in their order, each with the rules that it lies within
 pub record Visited {P : ℕ → Type 0} (N : Nesting P) (rs : List (Rule P)) : Type 0 where
   pub keys : map (λ v. v.0) (visits N (λ i. used N i rs) 0 5 rs) ≡ keys N rs
-  pub rules : All (λ v. v.1 ≡ filter (lies N v.0) rs) (visits N (λ i. used N i rs) 0 5 rs)
+  pub rules : AllByRecursion (λ v. v.1 ≡ filter (lies N v.0) rs) (visits N (λ i. used N i rs) 0 5 rs)
 
 abbrev pub PlaceByPlace : (ℕ → Type 0) → Type 0
 PlaceByPlace P = (N : Nesting P) (rs : List (Rule P)) → Visited N rs

@@ -1,7 +1,7 @@
 -- Each element of a list counted once, from element to element.
 use Rattle.std.proofs.Common.{◌≡◌, ℕ, zero, suc, ◌+◌, ◌<◌, ◌≤◌, Bool, true, false, cond, not, List, [], ◌∷◌, ◌++◌, map, length, get_or, set, filter, sym, refl, ap, ◌∙◌, subst, ap₂, arith}
 use lib.Seq.{map-set_same}
-use Rattle.std.specs.List.{AllByRecursion as All}
+use Rattle.std.specs.List.{AllByRecursion}
 use Rattle.std.proofs.ByRecursion.{All-get_or, All-map, All-weaker}
 use Rattle.std.proofs.lemmas.List.{append-nil, get_or-map, length-map, map-set, map_push}
 use Rattle.std.proofs.lemmas.List.Sums.{length-filter, sum_by_push, count_by-le-length}
@@ -11,7 +11,7 @@ use Rattle.levels.proofs.Counts.{everywhere, kept_all, kept_none, kept_same, kep
 use Rattle.groups.proofs.Apart.{Apart, apart_once}
 use Rattle.groups.proofs.Tests.{Found, all_found, all_once, any_once, any_out, false_from}
 
-pub map_same : {X Y : Type 0} (f g : X → Y) (xs : List X) → All (λ x. f x ≡ g x) xs → map f xs ≡ map g xs
+pub map_same : {X Y : Type 0} (f g : X → Y) (xs : List X) → AllByRecursion (λ x. f x ≡ g x) xs → map f xs ≡ map g xs
 map_same f g [] h = refl
 map_same f g (x ∷ xs) h = ap₂ ◌∷◌ h.0 (map_same f g xs h.1)
 
@@ -46,12 +46,12 @@ module _ {X : Type 0} (eq : X → X → Bool) (is : (x y : X) → eq x y ≡ tru
   often_itself : often eq (ts ++ t ∷ []) t ≡ often eq ts t + 1
   often_itself = omega (arith, often_push eq ts t t, ap (λ b. cond {A = ℕ} b 1 0) (from t t refl))
 
-  often_others : (us : List X) → All (λ u. eq t u ≡ false) us → map (often eq (ts ++ t ∷ [])) us ≡ map (often eq ts) us
+  often_others : (us : List X) → AllByRecursion (λ u. eq t u ≡ false) us → map (often eq (ts ++ t ∷ [])) us ≡ map (often eq ts) us
   often_others us a = map_same _ _ us (All-weaker _ _ often_other us a)
 
   often_raised : (us : List X) (i : ℕ) → Apart eq us → i < length us → get_or us i t ≡ t → map (often eq (ts ++ t ∷ [])) us ≡ set (map (often eq ts) us) i (often eq ts t + 1)
   often_raised [] i a l e = absurd (omega arith)
-  often_raised (u ∷ us) zero a l e = ap₂ ◌∷◌ (ap (often eq (ts ++ t ∷ [])) e ∙ often_itself) (often_others us (subst (λ z. All (λ y. eq z y ≡ false) us) e a.0))
+  often_raised (u ∷ us) zero a l e = ap₂ ◌∷◌ (ap (often eq (ts ++ t ∷ [])) e ∙ often_itself) (often_others us (subst (λ z. AllByRecursion (λ y. eq z y ≡ false) us) e a.0))
   often_raised (u ∷ us) (suc i) a l e =
       let m : i < length us = omega arith in
       ap₂ ◌∷◌ (often_other u (other u t (subst (λ z. eq u z ≡ false) e (All-get_or _ us i t m a.0)))) (often_raised us i a.1 m e)
@@ -84,9 +84,9 @@ module _ {X : Type 0} (eq : X → X → Bool) (is : (x y : X) → eq x y ≡ tru
       )
 
     -- the element is not counted yet
-    module _ (c : C) (none : All (λ d. eq t (key d) ≡ false) cs) (new : key c ≡ t) (one : count c ≡ 1) where
-      unmet : All (λ u. eq t u ≡ false) (once eq ts)
-      unmet = subst (All (λ u. eq t u ≡ false)) keys (All-map _ key cs none)
+    module _ (c : C) (none : AllByRecursion (λ d. eq t (key d) ≡ false) cs) (new : key c ≡ t) (one : count c ≡ 1) where
+      unmet : AllByRecursion (λ u. eq t u ≡ false) (once eq ts)
+      unmet = subst (AllByRecursion (λ u. eq t u ≡ false)) keys (All-map _ key cs none)
 
       nowhere : any (λ z. eq z t) ts ≡ false
       nowhere = false_from _ (λ h. any_out _ (λ z. eq z t) ⊥ (λ u n e. both_ways _ (other t u n) e) (once eq ts) unmet (any_once (λ z. eq z t) eq (λ x y a b. from x t (is x y a ∙ is y t b)) ts h))

@@ -1,6 +1,6 @@
 -- The place of the first best of a list, and the nearest head.
 use Rattle.std.proofs.Common.{◌≡◌, ℕ, zero, suc, ◌<◌, ◌≤◌, Bool, true, false, ltb, List, [], ◌∷◌, map, length, get_or, sym, refl, ap, ◌∙◌, subst, arith}
-use Rattle.std.specs.List.{AllByRecursion as All, IsFirstBest}
+use Rattle.std.specs.List.{AllByRecursion, IsFirstBest}
 use Rattle.std.proofs.ByRecursion.{All-from_get_or, All-get_or, All-map, All-weaker}
 use Rattle.std.proofs.lemmas.List.{get_or-map, length-map}
 use Rattle.std.proofs.lemmas.Bool.{ltb-true, ltb-false, leb-true, le-leb, cond-true, cond-false}
@@ -9,7 +9,7 @@ use Rattle.groups.proofs.Tests.{all_is, false_from}
 
 module _ {X : Type 0} (beats : X → X → Bool) (x : X) (xs : List X) where
   -- where the first is the best, no other beats it
-  pub first_leads : IsFirstBest beats (x ∷ xs) (length (x ∷ xs)) 0 → All (λ y. beats y x ≡ false) xs
+  pub first_leads : IsFirstBest beats (x ∷ xs) (length (x ∷ xs)) 0 → AllByRecursion (λ y. beats y x ≡ false) xs
   first_leads h = All-from_get_or _ xs x (λ i l. h.1 (suc i) x (omega arith))
 
   -- where another is the best, it beats the first, and is the best of the others

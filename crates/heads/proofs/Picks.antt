@@ -1,6 +1,6 @@
 -- What is picked of a list, and what is chosen of it.
 use Rattle.std.proofs.Common.{◌≡◌, ℕ, zero, suc, ◌+◌, ◌-◌, ◌<◌, ◌≤◌, Bool, true, false, cond, ltb, leb, List, [], ◌∷◌, ◌++◌, map, length, get_or, sym, refl, ap, ◌∙◌, subst, ap₂, arith}
-use Rattle.std.specs.List.{remove, AllByRecursion as All, IsFirstBest}
+use Rattle.std.specs.List.{remove, AllByRecursion, IsFirstBest}
 use Rattle.std.proofs.ByRecursion.{All-weaker}
 use Rattle.std.proofs.lemmas.List.{append-nil, append_assoc, get_or_default}
 use Rattle.std.proofs.lemmas.Bool.{ltb-true, ltb-false, le-leb, lt-leb, cond-true, cond-false, cond_both}
@@ -14,11 +14,11 @@ module _ {X : Type 0} (c : X → ℕ) where
   above x y = ltb (c y) (c x)
 
   -- what holds of all holds of the one that is picked and of the rest
-  all_pick : (P : X → Type 0) (x : X) (xs : List X) → All P (x ∷ xs) → P (pick c x xs).0 × All P (pick c x xs).1
+  all_pick : (P : X → Type 0) (x : X) (xs : List X) → AllByRecursion P (x ∷ xs) → P (pick c x xs).0 × AllByRecursion P (pick c x xs).1
   all_pick P x [] a = a
   all_pick P x (y ∷ ys) a =
       let r = all_pick P y ys a.1 in
-      cond_both (leb (c (pick c y ys).0) (c x)) _ _ (λ (p : X × List X). P p.0 × All P p.1) (λ _. a) (λ _. (r.0, (a.0, r.1)))
+      cond_both (leb (c (pick c y ys).0) (c x)) _ _ (λ (p : X × List X). P p.0 × AllByRecursion P p.1) (λ _. a) (λ _. (r.0, (a.0, r.1)))
 
   first_picked : (x : X) (xs : List X) (b : ℕ) → IsFirstBest above (x ∷ xs) (length (x ∷ xs)) b → pick c x xs ≡ (get_or (x ∷ xs) b x, remove (x ∷ xs) b)
   first_picked x [] zero h = refl
@@ -62,7 +62,7 @@ module _ {X Y : Type 0} (f : Y → X) (c : X → ℕ) (k : Y → ℕ) where
   abbrev both : Y × List Y → X × List X
   both p = (f p.0, map f p.1)
 
-  pick_map : (y : Y) (ys : List Y) → All Alike (y ∷ ys) → pick c (f y) (map f ys) ≡ both (pick k y ys)
+  pick_map : (y : Y) (ys : List Y) → AllByRecursion Alike (y ∷ ys) → pick c (f y) (map f ys) ≡ both (pick k y ys)
   pick_map y [] a = refl
   pick_map y (z ∷ zs) a =
       let r = pick k z zs in
@@ -74,14 +74,14 @@ module _ {X Y : Type 0} (f : Y → X) (c : X → ℕ) (k : Y → ℕ) where
       go true = refl
       go false = refl
 
-  pub chosen_map : (g : ℕ) (ys : List Y) → All Alike ys → map f (chosen k g ys) ≡ chosen c g (map f ys)
+  pub chosen_map : (g : ℕ) (ys : List Y) → AllByRecursion Alike ys → map f (chosen k g ys) ≡ chosen c g (map f ys)
   chosen_map zero ys a = refl
   chosen_map (suc g) [] a = refl
   chosen_map (suc g) (y ∷ ys) a =
       ap (λ l. f (pick k y ys).0 ∷ l) (chosen_map g (pick k y ys).1 (all_pick k Alike y ys a).1)
       ∙ ap (λ p. p.0 ∷ chosen c g p.1) (sym (pick_map y ys a))
 
-  pub all_alike : (ys : List Y) → map k ys ≡ map c (map f ys) → All Alike ys
+  pub all_alike : (ys : List Y) → map k ys ≡ map c (map f ys) → AllByRecursion Alike ys
   all_alike [] e = tt
   all_alike (y ∷ ys) e = (cc, all_alike ys (cc))
 

@@ -1,6 +1,6 @@
 -- Tuples counted from rule to rule, and the heads among them.
 use Rattle.std.proofs.Common.{◌≡◌, ℕ, zero, suc, ◌+◌, ◌<◌, ◌≤◌, min, Bool, true, false, cond, List, [], ◌∷◌, ◌++◌, map, length, get_or, set, filter, sym, refl, ap, ◌∙◌, arith}
-use Rattle.std.specs.List.{AllByRecursion as All}
+use Rattle.std.specs.List.{AllByRecursion}
 use Rattle.std.proofs.lemmas.List.{length-map, map-id}
 use Rattle.fields.specs.Lists.{once}
 use Rattle.levels.proofs.Counts.{everywhere}
@@ -26,7 +26,7 @@ counts_raised ts t cs i c d few k l same at kept more =
     record { tuples = r.0; rules = r.1 }
 
 -- it has a tuple that no rule had
-pub counts_new : (ts : List (List ℕ)) (cs : List Counted) (c : Counted) → Counts ts cs → All (λ d. equal (levels_at c) (levels_at d) ≡ false) cs → c.rules ≡ 1 → Counts (ts ++ levels_at c ∷ []) (cs ++ c ∷ [])
+pub counts_new : (ts : List (List ℕ)) (cs : List Counted) (c : Counted) → Counts ts cs → AllByRecursion (λ d. equal (levels_at c) (levels_at d) ≡ false) cs → c.rules ≡ 1 → Counts (ts ++ levels_at c ∷ []) (cs ++ c ∷ [])
 counts_new ts cs c k none one =
     let r = added equal equal_is equal_from ts (levels_at c) levels_at (λ c. c.rules) cs k.tuples k.rules c none refl one in
     record { tuples = r.0; rules = r.1 }

@@ -1,6 +1,6 @@
 -- The count of a level, from pattern to pattern.
 use Rattle.std.proofs.Common.{◌≡◌, ℕ, ◌+◌, ◌^◌, ◌≤◌, Bool, true, false, cond, not, ◌&&◌, List, [], ◌∷◌, ◌++◌, length, Decides, filter, sym, refl, ap, ◌∙◌, subst, arith}
-use Rattle.std.specs.List.{ContainsAt as Has, AllByRecursion as All}
+use Rattle.std.specs.List.{ContainsAt as Has, AllByRecursion}
 use Rattle.std.proofs.ByRecursion.{All-push}
 use Rattle.std.proofs.lemmas.List.{length_push, append-nil}
 use Rattle.std.proofs.lemmas.Bool.{and_from, and_left, and_right, not_from_true, not_from_false, or_right, cond-true}
@@ -20,11 +20,11 @@ module _ {P V : Type 0} (n : Nest P V) (p : P) where
   -- the count is the level; where the whole pattern tells itself, each that was counted does
   pub record Counted (ps : List P) (count : ℕ) : Type 0 where
     pub is : count ≡ length (rings ps)
-    pub telling : told n n.whole ≡ true → All (λ q. told n q ≡ true) (rings ps)
+    pub telling : told n n.whole ≡ true → AllByRecursion (λ q. told n q ≡ true) (rings ps)
 
   pub counted_from : (b : Bool) → b ≡ around n.within p n.whole → Counted [] (cond b 1 0)
-  counted_from true e = record { is = ap (λ c. length (cond c (n.whole ∷ []) [])) e; telling = λ h. subst (λ c. All (λ q. told n q ≡ true) (cond c (n.whole ∷ []) [])) e (h, tt) }
-  counted_from false e = record { is = ap (λ c. length (cond c (n.whole ∷ []) [])) e; telling = λ h. subst (λ c. All (λ q. told n q ≡ true) (cond c (n.whole ∷ []) [])) e tt }
+  counted_from true e = record { is = ap (λ c. length (cond c (n.whole ∷ []) [])) e; telling = λ h. subst (λ c. AllByRecursion (λ q. told n q ≡ true) (cond c (n.whole ∷ []) [])) e (h, tt) }
+  counted_from false e = record { is = ap (λ c. length (cond c (n.whole ∷ []) [])) e; telling = λ h. subst (λ c. AllByRecursion (λ q. told n q ≡ true) (cond c (n.whole ∷ []) [])) e tt }
 
   module _ (ps : List P) (q : P) (count : ℕ) (c : Counted ps count) where
     more : (b : Bool) → (around n.within p q && not (any (λ z. same n.within z q) (n.whole ∷ ps))) ≡ b → rings (ps ++ q ∷ []) ≡ rings ps ++ cond b (q ∷ []) []
@@ -33,12 +33,12 @@ module _ {P V : Type 0} (n : Nest P V) (p : P) where
     pub counted_takes : true ≡ around n.within p q → false ≡ any (λ z. same n.within z q) (n.whole ∷ ps) → told n q ≡ true → Counted (ps ++ q ∷ []) (count + 1)
     counted_takes a m h =
         let e = more true (and_from _ _ (sym a) (not_from_false _ (sym m))) in
-        record { is = omega (arith, c.is, length_push (rings ps) q, ap length e); telling = λ w. subst (All (λ z. told n z ≡ true)) (sym e) (All-push _ (rings ps) q (c.telling w) h) }
+        record { is = omega (arith, c.is, length_push (rings ps) q, ap length e); telling = λ w. subst (AllByRecursion (λ z. told n z ≡ true)) (sym e) (All-push _ (rings ps) q (c.telling w) h) }
 
     keeps : (around n.within p q && not (any (λ z. same n.within z q) (n.whole ∷ ps))) ≡ false → Counted (ps ++ q ∷ []) count
     keeps f =
         let e = more false f ∙ append-nil (rings ps) in
-        record { is = c.is ∙ sym (ap length e); telling = λ w. subst (All (λ z. told n z ≡ true)) (sym e) (c.telling w) }
+        record { is = c.is ∙ sym (ap length e); telling = λ w. subst (AllByRecursion (λ z. told n z ≡ true)) (sym e) (c.telling w) }
 
     pub counted_marked : true ≡ any (λ z. same n.within z q) (n.whole ∷ ps) → Counted (ps ++ q ∷ []) count
     counted_marked m = keeps (and_right _ _ (not_from_true _ (sym m)))

@@ -1,6 +1,6 @@
 -- How many elements of a list pass a test, where each element counts once.
 use Rattle.std.proofs.Common.{◌≡◌, ℕ, zero, suc, ◌+◌, ◌<◌, ◌≤◌, Bool, true, false, cond, not, ◌&&◌, ◌||◌, eqb, ltb, List, [], ◌∷◌, ◌++◌, length, get_or, take, drop, filter, sym, refl, ap, ◌∙◌, arith}
-use Rattle.std.specs.List.{AllByRecursion as All}
+use Rattle.std.specs.List.{AllByRecursion}
 use Rattle.std.proofs.lemmas.List.Elements.{filter-append}
 use Rattle.std.proofs.lemmas.List.{at_drop_more, take_more}
 use Rattle.std.proofs.lemmas.Bool.{and_parts, and_right, both_ways, eqb-true, le-ltb}
@@ -67,7 +67,7 @@ module _ {X : Type 0} where
   pub any_drop_more : (t : X → Bool) (xs : List X) (i : ℕ) (x : X) (b : Bool) → i < length xs → x ≡ get_or xs i x → b ≡ t x → any t (drop i xs) ≡ (b || any t (drop (i + 1) xs))
   any_drop_more t xs i x b h e k = at_drop_more (any t) xs i x h ∙ ap (λ y. t y || any t (drop (i + 1) xs)) (sym e) ∙ ap (λ c. c || any t (drop (i + 1) xs)) (sym k)
 
-  pub everywhere : (P : X → Type 0) → ((x : X) → P x) → (xs : List X) → All P xs
+  pub everywhere : (P : X → Type 0) → ((x : X) → P x) → (xs : List X) → AllByRecursion P xs
   everywhere P h [] = tt
   everywhere P h (x ∷ xs) = (h x, everywhere P h xs)
 
@@ -79,7 +79,7 @@ module _ {X : Type 0} where
       go true ih = ap (λ l. cond (s x) (x ∷ l) l) ih
       go false ih = ih
 
-  pub kept_same : (s t : X → Bool) (xs : List X) → All (λ x. s x ≡ t x) xs → filter s xs ≡ filter t xs
+  pub kept_same : (s t : X → Bool) (xs : List X) → AllByRecursion (λ x. s x ≡ t x) xs → filter s xs ≡ filter t xs
   kept_same s t [] h = refl
   kept_same s t (x ∷ xs) h = ap (λ b. cond b (x ∷ filter s xs) (filter s xs)) h.0 ∙ ap (λ l. cond (t x) (x ∷ l) l) (kept_same s t xs h.1)
 
@@ -87,15 +87,15 @@ module _ {X : Type 0} where
   kept_none t h [] = refl
   kept_none t h (x ∷ xs) = ap (λ b. cond b (x ∷ filter t xs) (filter t xs)) (h x) ∙ kept_none t h xs
 
-  pub kept_all : (t : X → Bool) (xs : List X) → All (λ x. t x ≡ true) xs → filter t xs ≡ xs
+  pub kept_all : (t : X → Bool) (xs : List X) → AllByRecursion (λ x. t x ≡ true) xs → filter t xs ≡ xs
   kept_all t [] h = refl
   kept_all t (x ∷ xs) h = ap (λ b. cond b (x ∷ filter t xs) (filter t xs)) h.0 ∙ ap (λ l. x ∷ l) (kept_all t xs h.1)
 
-  pub kept_has : (t : X → Bool) (P : X → Type 0) (xs : List X) → All (λ x. t x ≡ true → P x) xs → All P (filter t xs)
+  pub kept_has : (t : X → Bool) (P : X → Type 0) (xs : List X) → AllByRecursion (λ x. t x ≡ true → P x) xs → AllByRecursion P (filter t xs)
   kept_has t P [] h = tt
   kept_has t P (x ∷ xs) h = go (t x) h.0 (kept_has t P xs h.1)
     where
-      go : (b : Bool) → (b ≡ true → P x) → All P (filter t xs) → All P (cond b (x ∷ filter t xs) (filter t xs))
+      go : (b : Bool) → (b ≡ true → P x) → AllByRecursion P (filter t xs) → AllByRecursion P (cond b (x ∷ filter t xs) (filter t xs))
       go true k ih = (k refl, ih)
       go false k ih = ih
 

@@ -1,6 +1,6 @@
 -- A pattern is told by its length and its number, so there are at most 2 ^ 40 patterns.
 use Rattle.std.proofs.Common.{◌≡◌, ℕ, ◌+◌, ◌*◌, ◌^◌, ◌<◌, ◌≤◌, Bool, true, false, cond, ◌&&◌, eqb, ltb, List, length, filter, sym, ap, ◌∙◌, subst, arith}
-use Rattle.std.specs.List.{AllByRecursion as All}
+use Rattle.std.specs.List.{AllByRecursion}
 use Rattle.std.proofs.ByRecursion.{All-weaker}
 use Rattle.std.proofs.lemmas.Bool.{and_parts, and_from, eqb-true, eq-eqb, ltb-true, lt-ltb}
 use Rattle.std.proofs.lemmas.Bool.Decides.{same_from_decides}
@@ -54,7 +54,7 @@ module _ {P V : Type 0} (n : Nest P V) where
       let m = low y b in
       same_from x y (told_one x y (omega arith) (omega arith))
 
-  pub few : (t : P → Bool) (ps : List P) → All (λ p. told n p ≡ true) (filter t (once (same n.within) ps)) → length (filter t (once (same n.within) ps)) ≤ 2 ^ 40
+  pub few : (t : P → Bool) (ps : List P) → AllByRecursion (λ p. told n p ≡ true) (filter t (once (same n.within) ps)) → length (filter t (once (same n.within) ps)) ≤ 2 ^ 40
   few t ps h =
       let all = once (same n.within) ps in
       let kept = filter t (once (same n.within) ps) in

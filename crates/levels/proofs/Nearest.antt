@@ -1,6 +1,6 @@
 -- The nearest pattern around p, from pattern to pattern.
 use Rattle.std.proofs.Common.{◌≡◌, Bool, true, false, cond, not, ◌&&◌, ◌⊎◌, List, [], ◌∷◌, ◌++◌, length, Decides, filter, sym, refl, ap, ◌∙◌, subst, ⊎_elim, arith}
-use Rattle.std.specs.List.{ContainsAt as Has, AllByRecursion as All}
+use Rattle.std.specs.List.{ContainsAt as Has, AllByRecursion}
 use Rattle.std.proofs.ByRecursion.{All-push, All-weaker, all-has, all_kept_by, has_push, has_append_left, kept_by_passes, Decides-by_and}
 use Rattle.std.proofs.lemmas.Bool.{and_from, and_parts, and_right, not_from_true, not-false, both_ways}
 use Rattle.std.proofs.lemmas.Bool.Decides.{same_from_decides, Decides-by_or}
@@ -12,11 +12,11 @@ use Rattle.levels.proofs.Few.{same_is, same_from}
 use Rattle.levels.proofs.Counted.{rings}
 
 module _ {X : Type 0} where
-  all_once : (P : X → Type 0) (eq : X → X → Bool) (xs : List X) → All P xs → All P (once eq xs)
+  all_once : (P : X → Type 0) (eq : X → X → Bool) (xs : List X) → AllByRecursion P xs → AllByRecursion P (once eq xs)
   all_once P eq [] h = tt
   all_once P eq (x ∷ xs) h = (h.0, all_kept_by _ P (once eq xs) (all_once P eq xs h.1))
 
-  lone : (x : X) (xs : List X) → length xs ≡ 1 → All (λ y. x ≡ y) xs → xs ≡ x ∷ []
+  lone : (x : X) (xs : List X) → length xs ≡ 1 → AllByRecursion (λ y. x ≡ y) xs → xs ≡ x ∷ []
   lone x [] h a = absurd (omega arith)
   lone x (y ∷ []) h a = ap (λ z. z ∷ []) (sym a.0)
   lone x (y ∷ z ∷ zs) h a = absurd (omega arith)
@@ -39,7 +39,7 @@ module _ {P V : Type 0} (n : Nest P V) (p : P) where
   pub record Nearest (ps : List P) (found : P) : Type 0 where
     pub outer : around n.within p found ≡ true
     pub held : Has (n.whole ∷ ps) found
-    pub inner : All (λ q. around n.within p q ≡ true → n.within found q ≡ true) (n.whole ∷ ps)
+    pub inner : AllByRecursion (λ q. around n.within p q ≡ true → n.within found q ≡ true) (n.whole ∷ ps)
 
   pub nearest_from : (w : P) → w ≡ n.whole → true ≡ around n.within p w → Nearest [] w
   nearest_from w e h = record { outer = sym h; held = subst (λ z. Has (z ∷ []) w) e (has_push [] w); inner = ((λ _. subst (λ z. n.within w z ≡ true) e (n.reflexive w)), tt) }
@@ -66,7 +66,7 @@ module _ {P V : Type 0} (n : Nest P V) (p : P) where
     nearest_wider h = keeps (λ a. ⊎_elim (λ w. w) (λ w. absurd (both_ways _ (sym h) w)) (chain found q c.outer a))
 
   module _ (ps : List P) (found : P) (c : Nearest ps found) where
-    inside : All (λ q. n.within found q ≡ true) (rings n p ps)
+    inside : AllByRecursion (λ q. n.within found q ≡ true) (rings n p ps)
     inside = kept_has (around n.within p) (λ q. n.within found q ≡ true) (marked n.within n.whole ps) (all_once _ (same n.within) (n.whole ∷ ps) c.inner)
 
     is_found : (q : P) → Decides (same n.within found q) (q ≡ found)

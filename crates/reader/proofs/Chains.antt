@@ -1,6 +1,6 @@
 -- Parts that are read one after another.
 use Rattle.std.proofs.Common.{◌≡◌, ℕ, ◌+◌, List, [], ◌∷◌, ◌++◌, length, None, subst, inl, inr, arith}
-use Rattle.std.specs.List.{AllByRecursion as All}
+use Rattle.std.specs.List.{AllByRecursion}
 use Rattle.sheets.specs.Words.{rest}
 use Rattle.sheets.specs.Reading.{at, parts, pattern_at, address_at, rule_at}
 use Rattle.sheets.specs.declared.part.Side.{Side}
@@ -14,7 +14,7 @@ use Rattle.reader.specs.Readers.{Halts, due_refusals}
 module _ (ws : List ℕ) where
   -- nothing is wrong with the words of the parts from place i on
   abbrev pub Passes : List Part → ℕ → Type 0
-  Passes ps i = All (λ o. o ≡ None) (due_refusals ws ps i)
+  Passes ps i = AllByRecursion (λ o. o ≡ None) (due_refusals ws ps i)
 
   -- f is the fault of the first of them
   abbrev pub Fails : List Part → ℕ → Fault → Type 0

@@ -1,6 +1,6 @@
 -- What the readers of words, of rules and of a sheet answer. ws are the words of the sheet, i is a place among them.
 use Rattle.std.specs.Prelude.{◌≡◌, ℕ, ◌+◌, ◌≤◌, cond, not, ◌⊎◌, List, [], ◌∷◌, length, take, Some, None, Ok, Err, Option, Result, ◌==◌, nat_le}
-use Rattle.std.specs.List.{AllByRecursion as All}
+use Rattle.std.specs.List.{AllByRecursion}
 use Rattle.fields.specs.Refusals.{first, code}
 use Rattle.fields.specs.declared.refusal.Refusal.{Refusal}
 use Rattle.sheets.specs.Faults.{fault_at}
@@ -26,7 +26,7 @@ Halts (o ∷ os) i f = Refused o i f ⊎ ((o ≡ None) × Halts os (i + 1) f)
 
 -- x where nothing is wrong with any, else the fault of the first
 abbrev pub Reads : {X : Type 0} → List (Option ℕ) → ℕ → X → Result X Fault → Type 0
-Reads os i x (Ok y) = All (λ o. o ≡ None) os × (y ≡ x)
+Reads os i x (Ok y) = AllByRecursion (λ o. o ≡ None) os × (y ≡ x)
 Reads os i x (Err f) = Halts os i f
 
 -- ---- what is wrong with a word

@@ -1,6 +1,6 @@
 -- The way there and the way back.
 use Rattle.std.proofs.Common.{◌≡◌, ℕ, ◌-◌, ◌<◌, ◌≤◌, ltb, List, ◌++◌, length, take, drop, IfOk, Some, None, Ok, Err, Option, Result, sym, refl, ap, ◌∙◌, subst, arith}
-use Rattle.std.specs.List.{AllByRecursion as All}
+use Rattle.std.specs.List.{AllByRecursion}
 use Rattle.std.proofs.lemmas.List.{take_at}
 use Rattle.std.proofs.lemmas.Bool.{le-ltb, cond-false}
 use Rattle.fields.specs.Refusals.{code, refusal}
@@ -57,7 +57,7 @@ module _ (rules : List RuleRow) (before : List ℕ) (ok : None ≡ write_refusal
     answered = no_want (length rules) places room ∙ or_none (write_refusal rules (length before)) (room_refusal (length rules) places) ok
 
 -- ---- a sheet, read as these rules
-module _ (law : ReadIsWritten) (bytes : List ℕ) (bounded : All (λ b. b < 256) bytes) (places : ℕ) (rules : List RuleRow) (read : sheet_read bytes places ≡ accepted rules) where
+module _ (law : ReadIsWritten) (bytes : List ℕ) (bounded : AllByRecursion (λ b. b < 256) bytes) (places : ℕ) (rules : List RuleRow) (read : sheet_read bytes places ≡ accepted rules) where
   sheet : Sheet bytes rules
   sheet = (law bytes rules places bounded read).sheet
 

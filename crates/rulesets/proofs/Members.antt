@@ -2,7 +2,7 @@
 use Rattle.std.proofs.Common.{◌≡◌, ℕ, zero, suc, ◌+◌, ◌/◌, ◌%◌, ◌^◌, ◌<◌, ◌≤◌, Bool, true, false, cond, ◌&&◌, ◌||◌, eqb, List, [], ◌∷◌, ◌++◌, length, filter, sym, refl, ap, ◌∙◌, subst, ap₂, ⊎_elim, arith}
 use mathlib.Core.Bool.{and-true}
 use native.Mathlib.Nat.{zero-div}
-use Rattle.std.specs.List.{range_with_len, AllByRecursion as All}
+use Rattle.std.specs.List.{range_with_len, AllByRecursion}
 use Rattle.std.proofs.ByRecursion.{all_kept_by, All-weaker}
 use Rattle.std.proofs.lemmas.List.{get_or_past}
 use Rattle.std.proofs.lemmas.Bool.{and_right, cases_eq, cond_both, eq-eqb, eqb-true, ne_eqb, or_left, or_right}
@@ -14,17 +14,17 @@ use Rattle.rulesets.specs.declared.ruleset.RuleSet.{RuleSet}
 -- each number is below all that follow
 abbrev pub Ascending : List ℕ → Type 0
 Ascending [] = Unit {0}
-Ascending (x ∷ xs) = All (λ y. x < y) xs × Ascending xs
+Ascending (x ∷ xs) = AllByRecursion (λ y. x < y) xs × Ascending xs
 
 -- ---- what a filter keeps
 
 module _ {X : Type 0} where
-  everywhere : {P : X → Type 0} → ((x : X) → P x) → (xs : List X) → All P xs
+  everywhere : {P : X → Type 0} → ((x : X) → P x) → (xs : List X) → AllByRecursion P xs
   everywhere h [] = tt
   everywhere h (x ∷ xs) = (h x, everywhere h xs)
 
   module _ (p q : X → Bool) where
-    kept_same : (xs : List X) → All (λ x. p x ≡ q x) xs → filter p xs ≡ filter q xs
+    kept_same : (xs : List X) → AllByRecursion (λ x. p x ≡ q x) xs → filter p xs ≡ filter q xs
     kept_same [] h = refl
     kept_same (x ∷ xs) h = ap₂ (λ b ys. cond b (x ∷ ys) ys) h.0 (kept_same xs h.1)
 
@@ -59,11 +59,11 @@ kept_ascending p (x ∷ xs) h =
 
 -- ---- what a filter keeps of the numbers from a on
 
-counting_within : (a k n : ℕ) → a + k ≤ n → All (λ m. (a ≤ m) × (m < n)) (range_with_len a k)
+counting_within : (a k n : ℕ) → a + k ≤ n → AllByRecursion (λ m. (a ≤ m) × (m < n)) (range_with_len a k)
 counting_within a zero n l = tt
 counting_within a (suc k) n l = ((omega arith, omega arith), All-weaker _ _ (λ m h. (omega arith, h.1)) _ (counting_within (a + 1) k n (omega arith)))
 
-counting_from : (n a k : ℕ) → n ≤ a → All (λ m. n ≤ m) (range_with_len a k)
+counting_from : (n a k : ℕ) → n ≤ a → AllByRecursion (λ m. n ≤ m) (range_with_len a k)
 counting_from n a k l = All-weaker _ _ (λ m h. omega (arith, h.0)) _ (counting_within a k (a + k) (omega arith))
 
 counting_ascending : (a k : ℕ) → Ascending (range_with_len a k)
@@ -75,7 +75,7 @@ any_counting n a zero l h = absurd (omega arith)
 any_counting n a (suc k) l h =
     ⊎_elim (λ e. or_left _ _ (eq-eqb a n e)) (λ ne. or_right (eqb a n) _ (any_counting n (a + 1) k (omega arith) (omega arith))) (cases_eq a n)
 
-none_between : (n : ℕ) (xs : List ℕ) → All (λ m. m < n) xs → All (λ m. n ≤ m) xs → xs ≡ []
+none_between : (n : ℕ) (xs : List ℕ) → AllByRecursion (λ m. m < n) xs → AllByRecursion (λ m. n ≤ m) xs → xs ≡ []
 none_between n [] h k = refl
 none_between n (x ∷ xs) h k = absurd (omega (arith, h.0, k.0))
 
@@ -84,10 +84,10 @@ module _ (p c : ℕ → Bool) (n : ℕ) (more : (m : ℕ) → c m ≡ (eqb m n |
   others : (m : ℕ) → (m ≡ n → ⊥) → c m ≡ p m
   others m ne = more m ∙ ap (λ b. b || p m) (ne_eqb m n ne)
 
-  none_kept : (a k : ℕ) → n ≤ a → All (λ m. m < n) (filter p (range_with_len a k)) → filter p (range_with_len a k) ≡ []
+  none_kept : (a k : ℕ) → n ≤ a → AllByRecursion (λ m. m < n) (filter p (range_with_len a k)) → filter p (range_with_len a k) ≡ []
   none_kept a k l h = none_between n _ h (all_kept_by p _ (range_with_len a k) (counting_from n a k l))
 
-  kept_more : (a k : ℕ) → a ≤ n → n < a + k → All (λ m. m < n) (filter p (range_with_len a k)) → filter c (range_with_len a k) ≡ filter p (range_with_len a k) ++ n ∷ []
+  kept_more : (a k : ℕ) → a ≤ n → n < a + k → AllByRecursion (λ m. m < n) (filter p (range_with_len a k)) → filter c (range_with_len a k) ≡ filter p (range_with_len a k) ++ n ∷ []
   kept_more a zero l t h = absurd (omega arith)
   kept_more a (suc k) l t h =
       let rest = tail (p a) h in
@@ -103,7 +103,7 @@ module _ (p c : ℕ → Bool) (n : ℕ) (more : (m : ℕ) → c m ≡ (eqb m n |
       kept : List ℕ
       kept = filter p (range_with_len (a + 1) k)
 
-      tail : (b : Bool) → All (λ m. m < n) (cond b (a ∷ kept) kept) → All (λ m. m < n) kept
+      tail : (b : Bool) → AllByRecursion (λ m. m < n) (cond b (a ∷ kept) kept) → AllByRecursion (λ m. m < n) kept
       tail true i = i.1
       tail false i = i
 
@@ -138,10 +138,10 @@ pub members_and : (a b c : RuleSet) → ((m : ℕ) → has c m ≡ (has a m && h
 members_and a b c h = members_full c ∙ kept_both (has a) (has b) (has c) h (range_with_len 0 full) ∙ ap (filter (has b)) (sym (members_full a))
 
 -- n is put in, past all members
-pub members_with : (a c : RuleSet) (n : ℕ) → n < 256 → ((m : ℕ) → has c m ≡ (eqb m n || has a m)) → All (λ m. m < n) (members a) → members c ≡ members a ++ n ∷ []
+pub members_with : (a c : RuleSet) (n : ℕ) → n < 256 → ((m : ℕ) → has c m ≡ (eqb m n || has a m)) → AllByRecursion (λ m. m < n) (members a) → members c ≡ members a ++ n ∷ []
 members_with a c n l h below =
     members_full c
-    ∙ kept_more (has a) (has c) n h 0 full (omega arith) (omega (arith, full_is)) (subst (All (λ m. m < n)) (members_full a) below)
+    ∙ kept_more (has a) (has c) n h 0 full (omega arith) (omega (arith, full_is)) (subst (AllByRecursion (λ m. m < n)) (members_full a) below)
     ∙ ap (λ ys. ys ++ n ∷ []) (sym (members_full a))
 
 pub has_outside : (s : RuleSet) (n : ℕ) → 256 ≤ n → has s n ≡ false
@@ -155,9 +155,9 @@ has_members s n l =
     sym (and-true (has s n)) ∙ ap (λ b. has s n && b) (sym (any_counting n 0 full (omega arith) (omega (arith, full_is))))
     ∙ sym (any_kept (has s) n (range_with_len 0 full)) ∙ ap (any (λ m. eqb m n)) (sym (members_full s))
 
-pub members_below : (s : RuleSet) → All (λ m. m < 256) (members s)
+pub members_below : (s : RuleSet) → AllByRecursion (λ m. m < 256) (members s)
 members_below s =
-    subst (All (λ m. m < 256)) (sym (members_full s))
+    subst (AllByRecursion (λ m. m < 256)) (sym (members_full s))
     (all_kept_by (has s) _ (range_with_len 0 full) (All-weaker _ _ (λ m h. h.1) _ (counting_within 0 full 256 (omega (arith, full_is)))))
 
 pub members_ascending : (s : RuleSet) → Ascending (members s)

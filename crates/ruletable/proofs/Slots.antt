@@ -2,7 +2,7 @@
 use Rattle.std.proofs.Common.{◌≡◌, ℕ, suc, ◌+◌, ◌<◌, ◌≤◌, Bool, false, cond, not, ◌&&◌, eqb, List, [], ◌∷◌, ◌++◌, map, length, get_or, take, drop, set, is_some, Some, None, filter, Option, sym, refl, ap, ◌∙◌, ap₂, ⊎_elim, arith}
 use mathlib.Core.Bool.{and_self}
 use Rattle.std.specs.Option.{option_to_list}
-use Rattle.std.specs.List.{ContainsAt as Has, AllByRecursion as All}
+use Rattle.std.specs.List.{ContainsAt as Has, AllByRecursion}
 use Rattle.std.proofs.lemmas.List.Elements.{filter-append}
 use Rattle.std.proofs.ByRecursion.{All-map, All-weaker, has_append_left, has_append_right, has_push}
 use Rattle.std.proofs.lemmas.List.{append-nil, get_or_past, length-take, length-take-le, map-append, set-get_or, set_split, take_all, take_more}
@@ -30,7 +30,7 @@ numbered n r = eqb r.number n
 
 -- a number that none has
 abbrev Others : ℕ → List RuleRow → Type 0
-Others n rs = All (λ r. r.number ≡ n → ⊥) rs
+Others n rs = AllByRecursion (λ r. r.number ≡ n → ⊥) rs
 
 kept_others : (n : ℕ) (rs : List RuleRow) → Others n rs → filter (numbered n) rs ≡ []
 kept_others n rs h =
@@ -42,12 +42,12 @@ without_others n rs h = kept_all _ rs (All-weaker _ _ (λ r ne. ap not (ne_eqb r
 kept_parts : (p : RuleRow → Bool) (xs ys zs : List RuleRow) → filter p (xs ++ (ys ++ zs)) ≡ filter p xs ++ (filter p ys ++ filter p zs)
 kept_parts p xs ys zs = filter-append p xs (ys ++ zs) ∙ ap (λ rs. filter p xs ++ rs) (filter-append p ys zs)
 
-insert_after : (r : RuleRow) (qs rs : List RuleRow) → All (λ q. q.number < r.number) qs → insert r (qs ++ rs) ≡ qs ++ insert r rs
+insert_after : (r : RuleRow) (qs rs : List RuleRow) → AllByRecursion (λ q. q.number < r.number) qs → insert r (qs ++ rs) ≡ qs ++ insert r rs
 insert_after r [] rs h = refl
 insert_after r (q ∷ qs) rs h =
     ap₂ (λ b l. cond b (r ∷ q ∷ qs ++ rs) (q ∷ l)) (le-ltb r.number q.number (omega (arith, h.0))) (insert_after r qs rs h.1)
 
-insert_before : (r : RuleRow) (rs : List RuleRow) → All (λ q. r.number < q.number) rs → insert r rs ≡ r ∷ rs
+insert_before : (r : RuleRow) (rs : List RuleRow) → AllByRecursion (λ q. r.number < q.number) rs → insert r rs ≡ r ∷ rs
 insert_before r [] h = refl
 insert_before r (q ∷ rs) h = ap (λ b. cond b (r ∷ q ∷ rs) (q ∷ insert r rs)) (lt-ltb r.number q.number h.0)
 
@@ -63,12 +63,12 @@ rows_append i m (None ∷ s) t e = rows_append (suc i) m s t (omega arith)
 rows_append i m (Some p ∷ s) t e = ap (λ rs. row_of i p ∷ rs) (rows_append (suc i) m s t (omega arith))
 
 -- their numbers are those of slots
-pub rows_within : (i n : ℕ) (s : List Slot) → i + length s ≤ n → All (λ r. (i ≤ r.number) × (r.number < n)) (rows_from i s)
+pub rows_within : (i n : ℕ) (s : List Slot) → i + length s ≤ n → AllByRecursion (λ r. (i ≤ r.number) × (r.number < n)) (rows_from i s)
 rows_within i n [] l = tt
 rows_within i n (None ∷ s) l = All-weaker _ _ (λ r h. (omega (arith, h.0), h.1)) _ (rows_within (suc i) n s (omega arith))
 rows_within i n (Some p ∷ s) l = ((omega arith, omega arith), All-weaker _ _ (λ r h. (omega (arith, h.0), h.1)) _ (rows_within (suc i) n s (omega arith)))
 
-rows_past : (n : ℕ) (s : List Slot) → All (λ r. n < r.number) (rows_from (suc n) s)
+rows_past : (n : ℕ) (s : List Slot) → AllByRecursion (λ r. n < r.number) (rows_from (suc n) s)
 rows_past n s = All-weaker _ _ (λ r h. omega (arith, h.0)) _ (rows_within (suc n) (suc n + length s) s (omega arith))
 
 pub rows_ascending : (i : ℕ) (s : List Slot) → Ascending (map (λ r. r.number) (rows_from i s))
@@ -77,10 +77,10 @@ rows_ascending i (None ∷ s) = rows_ascending (suc i) s
 rows_ascending i (Some p ∷ s) = (All-map _ _ _ (rows_past i s), rows_ascending (suc i) s)
 
 -- each row is in the slot of its number
-pub rows_placed : (s : List Slot) → All (λ r. get_or s r.number None ≡ Some (parts_of r)) (rows s)
+pub rows_placed : (s : List Slot) → AllByRecursion (λ r. get_or s r.number None ≡ Some (parts_of r)) (rows s)
 rows_placed s = All-weaker _ _ (λ r h. ap (λ k. get_or s k None) (let e : r.number ≡ h.0 = omega arith in e) ∙ h.2) _ (places 0 s)
   where
-    places : (i : ℕ) (t : List Slot) → All (λ r. (k : ℕ) × (r.number ≡ i + k) × (get_or t k None ≡ Some (parts_of r))) (rows_from i t)
+    places : (i : ℕ) (t : List Slot) → AllByRecursion (λ r. (k : ℕ) × (r.number ≡ i + k) × (get_or t k None ≡ Some (parts_of r))) (rows_from i t)
     places i [] = tt
     places i (None ∷ t) = All-weaker _ _ (λ r h. (suc h.0, omega (arith, h.1), h.2)) _ (places (suc i) t)
     places i (Some p ∷ t) = ((0, omega arith, refl), All-weaker _ _ (λ r h. (suc h.0, omega (arith, h.1), h.2)) _ (places (suc i) t))
@@ -96,10 +96,10 @@ rows_more s i l =
 pub rows_all : (s : List Slot) (i : ℕ) → length s ≤ i → rows (take i s) ≡ rows s
 rows_all s i l = ap rows (take_all i s l)
 
-pub rows_below : (s : List Slot) (i : ℕ) → All (λ r. r.number < i) (rows (take i s))
+pub rows_below : (s : List Slot) (i : ℕ) → AllByRecursion (λ r. r.number < i) (rows (take i s))
 rows_below s i = All-weaker _ _ (λ r h. h.1) _ (rows_within 0 i (take i s) (omega (arith, length-take i s)))
 
-pub numbers_below : (s : List Slot) (i : ℕ) → All (λ n. n < i) (numbers (take i s))
+pub numbers_below : (s : List Slot) (i : ℕ) → AllByRecursion (λ n. n < i) (numbers (take i s))
 numbers_below s i = All-map _ _ _ (rows_below s i)
 
 pub numbers_more : (s : List Slot) (i : ℕ) (b : Bool) → i < length s → b ≡ is_some (get_or s i None) → numbers (take (i + 1) s) ≡ numbers (take i s) ++ cond b (i ∷ []) []

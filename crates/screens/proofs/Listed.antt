@@ -1,7 +1,7 @@
 -- The bits at listed places: all set, all tested.
 use Rattle.std.proofs.Common.{◌≡◌, ℕ, ◌/◌, ◌%◌, ◌^◌, ◌<◌, Bool, true, ◌||◌, eqb, List, [], ◌∷◌, length, fold, sym, refl, ap, ◌∙◌, arith, length-set}
 use mathlib.Core.Bool.{or-false, or_assoc}
-use Rattle.std.specs.List.{AllByRecursion as All}
+use Rattle.std.specs.List.{AllByRecursion}
 use Rattle.std.proofs.lemmas.Bool.{and_from, and_parts, or_left, or_right, eq-eqb}
 use Rattle.fields.specs.Lists.{any, all}
 use Rattle.keytables.specs.declared.key.Key.{Key}
@@ -9,14 +9,14 @@ use Rattle.screens.specs.Places.{places_of, part}
 use Rattle.screens.specs.Filters.{bit_at, marked, has_key, with_key, Added}
 use Rattle.screens.proofs.Words.{bit_marked}
 
-bits_marked : (n : ℕ) (words ps : List ℕ) → length words ≡ n → All (λ p. p / 64 < n) ps → (j : ℕ) → bit_at (fold marked words ps) j ≡ (bit_at words j || any (eqb j) ps)
+bits_marked : (n : ℕ) (words ps : List ℕ) → length words ≡ n → AllByRecursion (λ p. p / 64 < n) ps → (j : ℕ) → bit_at (fold marked words ps) j ≡ (bit_at words j || any (eqb j) ps)
 bits_marked n words [] e h j = sym (or-false (bit_at words j))
 bits_marked n words (p ∷ ps) e h j =
     let l : p / 64 < length words = omega (arith, h.0) in
     bits_marked n (marked words p) ps (length-set words _ _ ∙ e) h.1 j
     ∙ ap (λ (b : Bool). b || any (eqb j) ps) (bit_marked words p j l) ∙ or_assoc (bit_at words j) (eqb j p) (any (eqb j) ps)
 
-places_within : (k : Key) → All (λ p. p / 64 < 512) (places_of k)
+places_within : (k : Key) → AllByRecursion (λ p. p / 64 < 512) (places_of k)
 unfolding part
 places_within k =
     let low : (x : ℕ) → x % 2 ^ 15 / 64 < 512 = λ x. omega arith in

@@ -1,6 +1,6 @@
 -- Words and their bytes are one another's.
 use Rattle.std.proofs.Common.{◌≡◌, ℕ, zero, suc, ◌+◌, ◌*◌, ◌/◌, ◌%◌, ◌^◌, ◌<◌, ◌≤◌, List, [], ◌∷◌, ◌++◌, map, length, get_or, drop, sym, refl, ap, ◌∙◌, ap₂, mul-suc, arith}
-use Rattle.std.specs.List.{range_with_len, flat_map, AllByRecursion as All}
+use Rattle.std.specs.List.{range_with_len, flat_map, AllByRecursion}
 use Rattle.std.proofs.lemmas.List.{drop_more, drop_all, drop-drop, get_or-drop, length-append}
 use Rattle.std.proofs.ByRecursion.{All-get_or}
 use Rattle.sheets.specs.Words.{word_at, word_bytes}
@@ -57,7 +57,7 @@ words_of_bytes ws =
 four : (a b c d : ℕ) → a < 256 → b < 256 → c < 256 → d < 256 → word_bytes (a * 2 ^ 24 + b * 2 ^ 16 + c * 2 ^ 8 + d) ≡ a ∷ b ∷ c ∷ d ∷ []
 four a b c d p q r s = ap₂ ◌∷◌ (omega arith) (ap₂ ◌∷◌ (omega arith) (ap₂ ◌∷◌ (omega arith) (ap₂ ◌∷◌ (omega arith) refl)))
 
-module _ (bs : List ℕ) (small : All (λ b. b < 256) bs) where
+module _ (bs : List ℕ) (small : AllByRecursion (λ b. b < 256) bs) where
   bytes_from : (n k : ℕ) → 4 * (k + n) ≡ length bs → flat_map word_bytes (map (word_at bs) (range_with_len k n)) ≡ drop (4 * k) bs
   bytes_from zero k e = sym (drop_all (4 * k) bs (omega arith))
   bytes_from (suc n) k e =

@@ -1,6 +1,6 @@
 -- The laws of the format, above what reading and writing do.
 use Rattle.std.specs.Prelude.{◌≡◌, ℕ, ◌<◌, ◌≤◌, true, false, ◌||◌, List, length, is_some, None}
-use Rattle.std.specs.List.{AllByRecursion as All}
+use Rattle.std.specs.List.{AllByRecursion}
 use Rattle.sheets.specs.Format.{Sheet}
 use Rattle.sheets.specs.Reading.{accepted, sheet_read, word_refusal, last, stop}
 use Rattle.sheets.specs.declared.row.RuleRow.{RuleRow}
@@ -17,7 +17,7 @@ pub record ReadAs (bytes : List ℕ) (rs : List RuleRow) (places : ℕ) : Type 0
 
 abbrev pub ReadIsWritten : Type 0
 ReadIsWritten =
-    (bytes : List ℕ) (rs : List RuleRow) (places : ℕ) → All (λ b. b < 256) bytes → sheet_read bytes places ≡ accepted rs → ReadAs bytes rs places
+    (bytes : List ℕ) (rs : List RuleRow) (places : ℕ) → AllByRecursion (λ b. b < 256) bytes → sheet_read bytes places ≡ accepted rs → ReadAs bytes rs places
 
 -- reading stops at the first word that is out of order or ends the sheet
 pub record StopsAt (ws : List ℕ) (i : ℕ) : Type 0 where

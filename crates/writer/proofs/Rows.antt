@@ -2,7 +2,7 @@
 use Rattle.std.proofs.Common.{◌≡◌, ℕ, ◌+◌, ◌^◌, ◌<◌, ◌≤◌, Bool, true, false, cond, not, List, [], ◌∷◌, length, get_or, drop, Some, None, Option, sym, refl, ap, ◌∙◌, arith}
 use Rattle.std.proofs.lemmas.List.{at_drop_more}
 use Rattle.std.proofs.lemmas.Bool.{ltb-false, ltb-true, leb-true, and_parts, or_parts, not-false}
-use Rattle.std.specs.List.{AllByRecursion as All}
+use Rattle.std.specs.List.{AllByRecursion}
 use Rattle.fields.specs.Lengths.{has, clean}
 use Rattle.sheets.specs.Rows.{any_lacks, any_beyond, row_refusal, rows_refusal, or_else}
 use Rattle.sheets.specs.declared.row.RuleRow.{RuleRow}
@@ -70,7 +70,7 @@ rows_few least (r ∷ rs) l e =
     let p = row_passed least r b.0 in
     omega (arith, rows_few (r.number + 1) rs (omega arith) b.1)
 
-pub rows_fitting : (least : ℕ) (rs : List RuleRow) → None ≡ rows_refusal least rs → All Fitting rs
+pub rows_fitting : (least : ℕ) (rs : List RuleRow) → None ≡ rows_refusal least rs → AllByRecursion Fitting rs
 rows_fitting least [] e = tt
 rows_fitting least (r ∷ rs) e =
     let b = both (row_refusal least r) _ e in

@@ -1,6 +1,6 @@
 // Words into bytes.
 ghost use Rattle.std.specs.Prelude.{◌≡◌, ◌+◌, ◌*◌, ◌≤◌, length};
-ghost use Rattle.std.specs.List.{flat_map, AllByRecursion as All};
+ghost use Rattle.std.specs.List.{flat_map, AllByRecursion};
 ghost use Rattle.sheets.specs.Format.{sheet_bytes_lem};
 ghost use Rattle.sheets.specs.Words.{word_bytes};
 ghost use Rattle.writer.specs.Fitting.{Fitting};
@@ -36,7 +36,7 @@ fn put_words(out: &mut [u8], at: usize, words: &[u32])
 
 // Writes rules one after another at the front of the output.
 fn put_rules(out: &mut [u8], rules: &[RuleRow])
-    requires fit { All Fitting rules.now }
+    requires fit { AllByRecursion Fitting rules.now }
     requires room { 32 * length rules.now ≤ length out.old }
     ensures { out.new ≡ put_at 0 (flat_map rule_bytes rules.now) out.old }
 {
@@ -47,7 +47,7 @@ fn put_rules(out: &mut [u8], rules: &[RuleRow])
 
 // Writes the sheet of these rules at the front of the output.
 pub(crate) fn put_sheet(out: &mut [u8], rules: &[RuleRow])
-    requires fit { All Fitting rules.now }
+    requires fit { AllByRecursion Fitting rules.now }
     requires few { length rules.now ≤ 256 }
     requires room { 32 * length rules.now + 4 ≤ length out.old }
     ensures { out.new ≡ put_at 0 (sheet_bytes_lem rules.now) out.old }

@@ -1,6 +1,6 @@
 // Whether rows of plain numbers are the rules of a sheet.
 ghost use Rattle.std.specs.Prelude.{◌≡◌, ◌≤◌, false, length, OnOk};
-ghost use Rattle.std.specs.List.{AllByRecursion as All};
+ghost use Rattle.std.specs.List.{AllByRecursion};
 ghost use Rattle.fields.specs.Refusals.{refusal};
 ghost use Rattle.sheets.specs.Rows.{lacks, beyond, any_lacks, any_beyond, row_refusal, rows_refusal};
 ghost use Rattle.writer.specs.Fitting.{Fitting};
@@ -77,7 +77,7 @@ fn check_rule(rule: RuleRow, least: u32) -> Result<(), Refusal>
 pub(crate) fn check_rules(rules: &[RuleRow]) -> Result<(), Refusal>
     ensures answer { refusal result ≡ rows_refusal 0 rules.now }
     ensures few { OnOk result (length rules.now ≤ 256) }
-    ensures fit { OnOk result (All Fitting rules.now) }
+    ensures fit { OnOk result (AllByRecursion Fitting rules.now) }
 {
     let mut least = 0;
     for rule in rules {

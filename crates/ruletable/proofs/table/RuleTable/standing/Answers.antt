@@ -1,5 +1,5 @@
 use Rattle.std.proofs.Common.{◌<◌, true, false, [], ◌∷◌, ◌++◌, map, length, sym, ap, ◌∙◌, subst, append-nil, arith}
-use Rattle.std.specs.List.{AllByRecursion as All}
+use Rattle.std.specs.List.{AllByRecursion}
 use Rattle.rulesets.specs.Sets.{members}
 use Rattle.rulesets.proofs.Members.{members_with}
 use Rattle.ruletable.proofs.Slots.{numbers_below, numbers_more, rows_all}
@@ -16,7 +16,7 @@ loop-n-preserved c =
     elim c.if-is_some.branch [
       | then-is_some w ↦
           (ap members w.numbers-is
-          ∙ members_with was _ n (omega arith) w.with-numbers.ensures (subst (All (λ m. m < n)) (sym inv) (numbers_below s n))
+          ∙ members_with was _ n (omega arith) w.with-numbers.ensures (subst (AllByRecursion (λ m. m < n)) (sym inv) (numbers_below s n))
           ∙ ap (λ ns. ns ++ n ∷ []) inv
           ∙ sym (numbers_more s n true lt (sym w.if-is_some.true ∙ c.is_some.ensures)))
       | else-is_some w ↦
