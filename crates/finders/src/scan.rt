@@ -1,7 +1,7 @@
 // A finder that looks at every pattern in turn, for every kind.
 ghost use Rattle.std.specs.Prelude.{◌≡◌, ◌<◌, ◌≤◌, [], IfSome, IfOk, vec_len, vec_capacity};
-ghost use Rattle.finders.specs.Finding.{label_place, known as known-label};
-ghost use Rattle.finders.specs.Nearer.{nearer as nearer-place};
+ghost use Rattle.finders.specs.Finding.{label_place, known as known_label};
+ghost use Rattle.finders.specs.Nearer.{nearer as nearer_place};
 
 use crate::finder::Finder;
 use fields::kind::FieldKind;
@@ -30,7 +30,7 @@ impl<K: FieldKind> Scan<K> {
 
     // The label of a pattern that is held.
     fn known(&self, p: K::Pattern) -> Option<Label>
-        ensures { label_place result ≡ known-label K.FieldKind.nest self.now.patterns.items p }
+        ensures { label_place result ≡ known_label K.FieldKind.nest self.now.patterns.items p }
     {
         for i in 0..self.patterns.len() {
             if same::<K>(p, self.patterns[i]) {
@@ -44,7 +44,7 @@ impl<K: FieldKind> Scan<K> {
     fn nearer(&self, found: Option<Label>, i: usize) -> Label
         requires here { i < vec_len self.now.patterns }
         requires found { IfSome found (λ b. b.place < vec_len self.now.patterns) }
-        ensures { result.place ≡ nearer-place K.FieldKind.nest self.now.patterns.items (label_place found) i }
+        ensures { result.place ≡ nearer_place K.FieldKind.nest self.now.patterns.items (label_place found) i }
     {
         let place = i as u16;
         match found {

@@ -1,7 +1,7 @@
 // The length map of a held prefix.
 ghost use Rattle.std.specs.Prelude.{◌≡◌, ◌<◌, ◌≤◌, length, MatchOption, slice_index_or};
-ghost use Rattle.fields.specs.Prefixes.{within as within-prefix};
-ghost use Rattle.fields.specs.PrefixLaws.{whole as whole-prefix};
+ghost use Rattle.fields.specs.Prefixes.{within as within_prefix};
+ghost use Rattle.fields.specs.PrefixLaws.{whole as whole_prefix};
 ghost use Rattle.levels.specs.Levels.{level as level_of};
 ghost use Rattle.levels.specs.Maps.{Maps};
 
@@ -42,7 +42,7 @@ pub fn length_map<const W: u8, const S: u8>(
 
 // The nested level of the prefix at a place, which is the count of ones over its length map.
 pub fn level_by_map<const W: u8, const S: u8>(held: &[Prefix<W, S>], place: usize) -> Option<Level>
-    ensures { MatchOption result (length held.now ≤ place) (λ l. (place < length held.now) × ((d : Prefix W S) → l.around ≡ level_of (within-prefix W S) (whole-prefix W S) held.now (slice_index_or held.now place d))) }
+    ensures { MatchOption result (length held.now ≤ place) (λ l. (place < length held.now) × ((d : Prefix W S) → l.around ≡ level_of (within_prefix W S) (whole_prefix W S) held.now (slice_index_or held.now place d))) }
 {
     match length_map(held, place) {
         Some(map) => Some(Level {

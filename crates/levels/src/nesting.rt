@@ -2,7 +2,7 @@
 ghost use Rattle.std.specs.Prelude.{◌≡◌, true, ◌∷◌};
 ghost use Rattle.std.specs.Option.{option_to_list};
 ghost use Rattle.fields.specs.Lists.{any};
-ghost use Rattle.levels.specs.Levels.{same as same-pattern, around as around-pattern, level as level_of, nearest as nearest-of};
+ghost use Rattle.levels.specs.Levels.{same as same_pattern, around as around_pattern, level as level_of, nearest as nearest_of};
 ghost use Rattle.levels.specs.Told.{told};
 
 use fields::kind::FieldKind;
@@ -10,14 +10,14 @@ use fields::numbers::Level;
 
 // Whether two patterns are one.
 pub fn same<K: FieldKind>(a: K::Pattern, b: K::Pattern) -> bool
-    ensures { result ≡ same-pattern K.FieldKind.nest.within a b }
+    ensures { result ≡ same_pattern K.FieldKind.nest.within a b }
 {
     K::within(a, b) && K::within(b, a)
 }
 
 // Whether the pattern q lies around p, and is another one.
 pub fn around<K: FieldKind>(p: K::Pattern, q: K::Pattern) -> bool
-    ensures { result ≡ around-pattern K.FieldKind.nest.within p q }
+    ensures { result ≡ around_pattern K.FieldKind.nest.within p q }
 {
     K::within(p, q) && !K::within(q, p)
 }
@@ -25,7 +25,7 @@ pub fn around<K: FieldKind>(p: K::Pattern, q: K::Pattern) -> bool
 // Whether two patterns are one, by the length and the number that each tells.
 // These also bound how many patterns there are.
 fn alike<K: FieldKind>(a: K::Pattern, b: K::Pattern) -> bool
-    ensures one { result ≡ same-pattern K.FieldKind.nest.within a b }
+    ensures one { result ≡ same_pattern K.FieldKind.nest.within a b }
     ensures few { (told K.FieldKind.nest a ≡ true) × (told K.FieldKind.nest b ≡ true) }
 {
     let lengths = K::length(a).bits == K::length(b).bits;
@@ -35,7 +35,7 @@ fn alike<K: FieldKind>(a: K::Pattern, b: K::Pattern) -> bool
 
 // Whether the pattern q is the whole one, or one of these.
 fn marked<K: FieldKind>(patterns: &[K::Pattern], q: K::Pattern) -> bool
-    ensures found { result ≡ any (λ p. same-pattern K.FieldKind.nest.within p q) (K.FieldKind.nest.whole ∷ patterns.now) }
+    ensures found { result ≡ any (λ p. same_pattern K.FieldKind.nest.within p q) (K.FieldKind.nest.whole ∷ patterns.now) }
     ensures few { (told K.FieldKind.nest K.FieldKind.nest.whole ≡ true) × (told K.FieldKind.nest q ≡ true) }
 {
     if alike::<K>(K::whole(), q) {
@@ -67,7 +67,7 @@ pub fn level<K: FieldKind>(patterns: &[K::Pattern], p: K::Pattern) -> Level
 
 // The nearest other marked pattern around p, or none where p is the whole pattern.
 pub fn nearest<K: FieldKind>(patterns: &[K::Pattern], p: K::Pattern) -> Option<K::Pattern>
-    ensures { option_to_list result ≡ nearest-of K.FieldKind.nest.within K.FieldKind.nest.whole patterns.now p }
+    ensures { option_to_list result ≡ nearest_of K.FieldKind.nest.within K.FieldKind.nest.whole patterns.now p }
 {
     let whole = K::whole();
     if !around::<K>(p, whole) {

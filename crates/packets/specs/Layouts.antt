@@ -8,7 +8,7 @@ use Rattle.packets.specs.declared.packet.Rest.{Rest}
 abbrev pub with_ports : Layout → Bool
 with_ports l = l.offset == 0 && (l.protocol == 6 || l.protocol == 17)
 
-pub record Laid_out (bs : List ℕ) (l : Layout) : Type 0 where
+pub record LaidOut (bs : List ℕ) (l : Layout) : Type 0 where
   pub header_fits : 20 ≤ length bs
   pub start_is : l.start ≡ start bs
   pub total_is : l.total ≡ total bs

@@ -1,7 +1,7 @@
 // Where the parts of a packet are.
 ghost use Rattle.std.specs.Prelude.{◌≡◌, IfOk};
 ghost use Rattle.fields.specs.Refusals.{refusal};
-ghost use Rattle.packets.specs.Layouts.{Laid_out, with_ports};
+ghost use Rattle.packets.specs.Layouts.{LaidOut, with_ports};
 ghost use Rattle.packets.specs.Packets.{packet_refusal};
 
 use fields::refusal::Refusal;
@@ -41,7 +41,7 @@ impl Layout {
 // The layout of a packet that passes the tests.
 pub(crate) fn layout_of(bytes: &[u8]) -> Result<Layout, Refusal>
     ensures answer { refusal result ≡ packet_refusal bytes.now }
-    ensures layout { IfOk result (λ l. Laid_out bytes.now l) }
+    ensures layout { IfOk result (λ l. LaidOut bytes.now l) }
 {
     if bytes.len() < SHORTEST_HEADER {
         return Err(Refusal::PacketBytes);

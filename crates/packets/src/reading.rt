@@ -1,7 +1,7 @@
 // A packet from bytes.
 ghost use Rattle.std.specs.Prelude.{◌≡◌, IfOk};
 ghost use Rattle.fields.specs.Refusals.{refusal};
-ghost use Rattle.packets.specs.Layouts.{Laid_out, ports_in, RestOf};
+ghost use Rattle.packets.specs.Layouts.{LaidOut, ports_in, RestOf};
 ghost use Rattle.packets.specs.Packets.{packet_refusal, packet_shown, shown};
 
 use crate::header::Header;
@@ -14,7 +14,7 @@ use octets::{number_of_four, number_of_two};
 
 // The ports, both 0 in a packet that has none to read.
 fn read_ports(bytes: &[u8], layout: Layout) -> Sides<u16>
-    requires { Laid_out bytes.now layout }
+    requires { LaidOut bytes.now layout }
     ensures { result ≡ ports_in bytes.now }
 {
     if layout.has_ports() {
@@ -32,7 +32,7 @@ fn read_ports(bytes: &[u8], layout: Layout) -> Sides<u16>
 
 // What follows the header.
 fn read_rest(bytes: &[u8], layout: Layout) -> Rest<'_>
-    requires { Laid_out bytes.now layout }
+    requires { LaidOut bytes.now layout }
     ensures { RestOf bytes.now result }
 {
     let place = layout.start;

@@ -1,7 +1,7 @@
 // What is done with sets.
 ghost use Rattle.std.specs.Prelude.{◌≡◌, ℕ, false, ◌&&◌, ◌||◌, [], ◌++◌, length, is_some, ◌==◌};
 ghost use Rattle.std.specs.Option.{option_to_list};
-ghost use Rattle.rulesets.specs.Sets.{has as has-number, members};
+ghost use Rattle.rulesets.specs.Sets.{has as has_number, members};
 
 use crate::ruleset::RuleSet;
 
@@ -14,7 +14,7 @@ impl RuleSet {
     }
 
     pub fn has(self, n: u8) -> bool
-        ensures { result ≡ has-number self n }
+        ensures { result ≡ has_number self n }
     {
         let n = n as usize;
         (self.words[n / 64] >> (n % 64)) & 1 == 1
@@ -22,7 +22,7 @@ impl RuleSet {
 
     // One number more.
     pub fn with(self, n: u8) -> RuleSet
-        ensures { (m : ℕ) → has-number result m ≡ (m == n || has-number self m) }
+        ensures { (m : ℕ) → has_number result m ≡ (m == n || has_number self m) }
     {
         let n = n as usize;
         let mut words = self.words;
@@ -32,7 +32,7 @@ impl RuleSet {
 
     // The numbers that are in both.
     pub fn and(self, other: RuleSet) -> RuleSet
-        ensures { (m : ℕ) → has-number result m ≡ (has-number self m && has-number other m) }
+        ensures { (m : ℕ) → has_number result m ≡ (has_number self m && has_number other m) }
     {
         let [a, b, c, d] = self.words;
         let [e, f, g, h] = other.words;
@@ -43,7 +43,7 @@ impl RuleSet {
 
     // The numbers that are in one of them.
     pub fn or(self, other: RuleSet) -> RuleSet
-        ensures { (m : ℕ) → has-number result m ≡ (has-number self m || has-number other m) }
+        ensures { (m : ℕ) → has_number result m ≡ (has_number self m || has_number other m) }
     {
         let [a, b, c, d] = self.words;
         let [e, f, g, h] = other.words;

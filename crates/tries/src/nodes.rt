@@ -1,7 +1,7 @@
 // The nodes of a trie.
 ghost use Rattle.std.specs.Prelude.{◌≡◌, ◌+◌, ◌<◌, ◌≤◌, Bool, List, [], ◌∷◌, length, IfOk, Some, vec_capacity, ◌≢◌};
 ghost use Rattle.std.specs.Option.{option_or};
-ghost use Rattle.tries.specs.Nodes.{no_node, kid, tag, turned, grown, marked, look, deepest as deepest-label, Tree, Reached};
+ghost use Rattle.tries.specs.Nodes.{no_node, kid, tag, turned, grown, marked, look, deepest as deepest_label, Tree, Reached};
 ghost use Rattle.tries.specs.Spelling.{bits};
 
 use crate::node::Node;
@@ -107,7 +107,7 @@ impl Nodes {
     // The last label on the way along a path.
     pub(crate) fn deepest(&self, path: BitPath) -> Option<Label>
         requires { Tree self.now.list.items }
-        ensures { result ≡ deepest-label self.now.list.items 0 (bits path) }
+        ensures { result ≡ deepest_label self.now.list.items 0 (bits path) }
     {
         let mut at = 0;
         let mut found = None;

@@ -1,6 +1,6 @@
 // A finder that goes down by the bits.
 ghost use Rattle.std.specs.Prelude.{◌≡◌, ◌≤◌, [], IfOk, vec_capacity};
-ghost use Rattle.finders.specs.Finding.{label_place, known as known-label};
+ghost use Rattle.finders.specs.Finding.{label_place, known as known_label};
 ghost use Rattle.tries.specs.Ready.{Ready};
 
 use crate::nodes::Nodes;
@@ -32,7 +32,7 @@ impl<K: Spelled> Trie<K> {
     // The label of a pattern that is held.
     fn known(&self, p: K::Pattern) -> Option<Label>
         requires { Ready K.Spelled.spelling self.now.nodes.list.items self.now.patterns.items }
-        ensures { label_place result ≡ known-label K.Spelled.spelling.nest self.now.patterns.items p }
+        ensures { label_place result ≡ known_label K.Spelled.spelling.nest self.now.patterns.items p }
     {
         self.nodes.find(K::path(p))
     }
