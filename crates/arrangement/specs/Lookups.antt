@@ -5,17 +5,17 @@ use Rattle.fields.specs.declared.perfield.PerField.{PerField}
 use Rattle.keytables.specs.declared.key.Key.{Key}
 
 -- the label found, or that of the whole pattern
-abbrev pub or_whole_lem : Option Label → Label
-or_whole_lem (Some l) = l
-or_whole_lem None = record { place = 0 }
+abbrev pub or_whole : Option Label → Label
+or_whole (Some l) = l
+or_whole None = record { place = 0 }
 
 abbrev pub key_of : ℕ → PerField (Option Label) → Key
 key_of s f = record {
   subset = s;
   labels = record {
-    addresses = record { source = or_whole_lem f.addresses.source; destination = or_whole_lem f.addresses.destination };
-    ports = record { source = or_whole_lem f.ports.source; destination = or_whole_lem f.ports.destination };
-    protocol = or_whole_lem f.protocol;
+    addresses = record { source = or_whole f.addresses.source; destination = or_whole f.addresses.destination };
+    ports = record { source = or_whole f.ports.source; destination = or_whole f.ports.destination };
+    protocol = or_whole f.protocol;
   };
 }
 

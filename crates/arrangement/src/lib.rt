@@ -3,7 +3,7 @@
 
 ghost use Rattle.std.specs.Prelude.{◌≡◌, ◌+◌, min, if◌then◌else◌};
 ghost use Rattle.finders.specs.Finding.{label_place, best_label};
-ghost use Rattle.arrangement.specs.Lookups.{or_whole_lem, key_of, screened};
+ghost use Rattle.arrangement.specs.Lookups.{or_whole, key_of, screened};
 
 use fields::numbers::Label;
 use fields::perfield::PerField;
@@ -31,7 +31,7 @@ pub struct Found {
 }
 
 fn or_whole(label: Option<Label>) -> Label
-    ensures { result ≡ or_whole_lem label }
+    ensures { result ≡ or_whole label }
 {
     match label {
         Some(label) => label,

@@ -11,5 +11,5 @@ abbrev pub clean : ℕ → ℕ → ℕ → Bool
 clean w l n = nat_lt n (2 ^ w) && n % 2 ^ (w - l) == 0
 
 -- the first l bits of a number of w bits
-abbrev pub first_bits_lem : ℕ → ℕ → ℕ → ℕ
-first_bits_lem w l n = n / 2 ^ (w - l)
+abbrev pub first_bits : ℕ → ℕ → ℕ → ℕ
+first_bits w l n = n / 2 ^ (w - l)

@@ -8,7 +8,7 @@ use Rattle.std.proofs.Math.Nat.{div-eq_of_lt, zero-mod}
 use borrow.Author.Tests.{eq-eqb, eqb-true}
 use Rattle.std.proofs.lemmas.Nat.{shr-shr, shr_split, pow_pos, mod_below}
 use Rattle.std.proofs.lemmas.Bool.{leb-true, le-leb, ltb-true, lt-ltb, and_parts, and_from, cases_lt, false≢true}
-use Rattle.fields.specs.Lengths.{has, clean, first_bits_lem}
+use Rattle.fields.specs.Lengths.{has, clean, first_bits}
 use Rattle.fields.specs.Nest.{Nest}
 use Rattle.fields.specs.Numbering.{Numbering}
 use Rattle.fields.specs.Prefixes.{matches, within, make, make_known, make_clean}
@@ -17,17 +17,17 @@ use Rattle.fields.specs.declared.refusal.Refusal.{Refusal}
 use Rattle.fields.specs.declared.refusal.Refusal.TheVariants.{Length, BitBeyond}
 
 -- what agrees in its first bits agrees in fewer of them
-coarser : (w l m x y : ℕ) → l ≤ m → m ≤ w → first_bits_lem w m x ≡ first_bits_lem w m y → first_bits_lem w l x ≡ first_bits_lem w l y
+coarser : (w l m x y : ℕ) → l ≤ m → m ≤ w → first_bits w m x ≡ first_bits w m y → first_bits w l x ≡ first_bits w l y
 coarser w l m x y a b e =
     let s : w - l ≡ (w - m) + (m - l) = omega arith in
-    let split : (n : ℕ) → first_bits_lem w l n ≡ n / 2 ^ (w - m) / 2 ^ (m - l) = λ n. ap (λ (k : ℕ). n / 2 ^ k) s ∙ sym (shr-shr n (w - m) (m - l)) in
+    let split : (n : ℕ) → first_bits w l n ≡ n / 2 ^ (w - m) / 2 ^ (m - l) = λ n. ap (λ (k : ℕ). n / 2 ^ k) s ∙ sym (shr-shr n (w - m) (m - l)) in
     split x ∙ ap (λ (k : ℕ). k / 2 ^ (m - l)) e ∙ sym (split y)
 
 -- no bit is the first of no bits
-no_bits : (w n : ℕ) → n < 2 ^ w → first_bits_lem w 0 n ≡ first_bits_lem w 0 0
+no_bits : (w n : ℕ) → n < 2 ^ w → first_bits w 0 n ≡ first_bits w 0 0
 no_bits w n h =
     let e : w - 0 ≡ w = omega arith in
-    let zeros : (k : ℕ) → k < 2 ^ w → first_bits_lem w 0 k ≡ 0 = λ k l. ap (λ (m : ℕ). k / 2 ^ m) e ∙ div-eq_of_lt l in
+    let zeros : (k : ℕ) → k < 2 ^ w → first_bits w 0 k ≡ 0 = λ k l. ap (λ (m : ℕ). k / 2 ^ m) e ∙ div-eq_of_lt l in
     zeros n h ∙ sym (zeros 0 (pow_pos w))
 
 module _ {w s : ℕ} where
@@ -52,7 +52,7 @@ module _ {w s : ℕ} where
     plain = is_prop→PathP (λ k. clean w (e k) (n k) ≡ true) (λ k. Bool-set _ _) p.plain q.plain j;
   }
 
-  pub within_from : (p q : Prefix w s) → q.length ≤ p.length → first_bits_lem w q.length p.number ≡ first_bits_lem w q.length q.number → within w s p q ≡ true
+  pub within_from : (p q : Prefix w s) → q.length ≤ p.length → first_bits w q.length p.number ≡ first_bits w q.length q.number → within w s p q ≡ true
   unfolding within
   within_from p q l e = and_from _ _ (le-leb _ _ l) (eq-eqb _ _ e)
 
@@ -60,15 +60,15 @@ module _ {w s : ℕ} where
   unfolding within
   within_shorter p q h = leb-true _ _ (and_parts _ _ h).0
 
-  pub within_agrees : (p q : Prefix w s) → within w s p q ≡ true → first_bits_lem w q.length p.number ≡ first_bits_lem w q.length q.number
+  pub within_agrees : (p q : Prefix w s) → within w s p q ≡ true → first_bits w q.length p.number ≡ first_bits w q.length q.number
   unfolding within
   within_agrees p q h = eqb-true _ _ (and_parts (nat_le q.length p.length) _ h).1
 
-  pub matches_from : (p : Prefix w s) (v : ℕ) → first_bits_lem w p.length p.number ≡ first_bits_lem w p.length (v % 2 ^ w) → matches w s p v ≡ true
+  pub matches_from : (p : Prefix w s) (v : ℕ) → first_bits w p.length p.number ≡ first_bits w p.length (v % 2 ^ w) → matches w s p v ≡ true
   unfolding matches
   matches_from p v e = eq-eqb _ _ e
 
-  pub matches_agrees : (p : Prefix w s) (v : ℕ) → matches w s p v ≡ true → first_bits_lem w p.length p.number ≡ first_bits_lem w p.length (v % 2 ^ w)
+  pub matches_agrees : (p : Prefix w s) (v : ℕ) → matches w s p v ≡ true → first_bits w p.length p.number ≡ first_bits w p.length (v % 2 ^ w)
   unfolding matches
   matches_agrees p v h = eqb-true _ _ h
 
@@ -120,7 +120,7 @@ module _ (w s : ℕ) where
 
   -- the value that a pattern's own number is
   pub own : (p : Prefix w s) (v : ℕ) → v ≡ p.number → matches w s p v ≡ true
-  own p v e = matches_from p v (ap (first_bits_lem w p.length) (sym (ap (λ (n : ℕ). n % 2 ^ w) e ∙ mod-eq_of_lt (fits p))))
+  own p v e = matches_from p v (ap (first_bits w p.length) (sym (ap (λ (n : ℕ). n % 2 ^ w) e ∙ mod-eq_of_lt (fits p))))
 
 module _ (w s l n : ℕ) where
   pub make_at_clean : (h : has w s l ≡ true) (b : Bool) (c : clean w l n ≡ b) (p : Prefix w s) → p.length ≡ l → p.number ≡ n → make_clean w s l n h b c ≡ Ok p

@@ -1,6 +1,6 @@
 // Tests on the bits of plain numbers.
 ghost use Rattle.std.specs.Prelude.{◌≡◌, ◌-◌, ◌/◌, ◌%◌, ◌^◌, ◌&&◌, ◌==◌, nat_le, nat_lt};
-ghost use Rattle.fields.specs.Lengths.{has, clean as clean_at, first_bits_lem};
+ghost use Rattle.fields.specs.Lengths.{has, clean as clean_at, first_bits};
 
 // No bit is set below a place.
 fn clean(number: u32, place: u8) -> bool
@@ -36,7 +36,7 @@ pub(crate) fn is_clean(width: u8, length: u8, number: u32) -> bool
 
 // The first bits of a number of `width` bits, as many as `length`.
 fn first_bits(width: u8, length: u8, number: u32) -> u32
-    ensures { result ≡ first_bits_lem width length number }
+    ensures { result ≡ first_bits width length number }
 {
     let rest = width.saturating_sub(length);
     if rest < 32 { number >> rest } else { 0 }
@@ -44,7 +44,7 @@ fn first_bits(width: u8, length: u8, number: u32) -> u32
 
 // Whether two numbers agree in their first bits, as many as `length`.
 fn agree(width: u8, length: u8, a: u32, b: u32) -> bool
-    ensures { result ≡ (first_bits_lem width length a == first_bits_lem width length b) }
+    ensures { result ≡ (first_bits width length a == first_bits width length b) }
 {
     first_bits(width, length, a) == first_bits(width, length, b)
 }
@@ -62,7 +62,7 @@ fn lowest(width: u8, number: u32) -> u32
 
 // Whether the prefix of a length and a number matches a value.
 pub(crate) fn meets(width: u8, length: u8, number: u32, value: u32) -> bool
-    ensures { result ≡ (first_bits_lem width length number == first_bits_lem width length (value % 2 ^ width)) }
+    ensures { result ≡ (first_bits width length number == first_bits width length (value % 2 ^ width)) }
 {
     agree(width, length, number, lowest(width, value))
 }
@@ -75,7 +75,7 @@ pub(crate) fn lies_within(
     outer_length: u8,
     outer_number: u32,
 ) -> bool
-    ensures { result ≡ (nat_le outer_length length && first_bits_lem width outer_length number == first_bits_lem width outer_length outer_number) }
+    ensures { result ≡ (nat_le outer_length length && first_bits width outer_length number == first_bits width outer_length outer_number) }
 {
     outer_length <= length && agree(width, outer_length, number, outer_number)
 }

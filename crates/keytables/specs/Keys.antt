@@ -5,14 +5,14 @@ use Rattle.fields.specs.declared.numbers.Label.{Label}
 use Rattle.fields.specs.declared.perfield.PerField.{PerField}
 
 -- two keys are the same: one subset, and the same label in every field
-abbrev pub same_labels_lem : PerField Label → PerField Label → Bool
-same_labels_lem a b =
+abbrev pub same_labels : PerField Label → PerField Label → Bool
+same_labels a b =
     (a.addresses.source.place == b.addresses.source.place) && (a.addresses.destination.place == b.addresses.destination.place
     && (a.ports.source.place == b.ports.source.place && (a.ports.destination.place == b.ports.destination.place
     && a.protocol.place == b.protocol.place)))
 
 abbrev pub same_key : Key → Key → Bool
-same_key a b = a.subset == b.subset && same_labels_lem a.labels b.labels
+same_key a b = a.subset == b.subset && same_labels a.labels b.labels
 
 -- put stores under a key that is there, or where there is room for one more
 abbrev pub stores : Option ℕ → ℕ → ℕ → Bool

@@ -1,6 +1,6 @@
 // A key table whose rows hang in buckets, the newest of a bucket first.
 ghost use Rattle.std.specs.Prelude.{◌≡◌, ◌+◌, ◌<◌, ◌≤◌, [], ◌∷◌, ◌++◌, length, IfSome, IfOk, None, vec_len, vec_capacity, nat_le, slice_index, slice_index_or, slice_set};
-ghost use Rattle.keytables.specs.Keys.{same_labels_lem, same_key};
+ghost use Rattle.keytables.specs.Keys.{same_labels, same_key};
 ghost use Rattle.keytables.specs.Rows.{mixed, bucket, no_row, with_entry, row_of, stored, Sound};
 ghost use Rattle.keytables.specs.declared.key.Key.{Key};
 
@@ -34,7 +34,7 @@ pub struct Buckets {
 }
 
 fn same_labels(a: Labels, b: Labels) -> bool
-    ensures { result ≡ same_labels_lem a b }
+    ensures { result ≡ same_labels a b }
 {
     a.addresses.source.place == b.addresses.source.place
         && a.addresses.destination.place == b.addresses.destination.place

@@ -8,7 +8,7 @@ use Rattle.std.proofs.lemmas.Nat.{one_shl, shl-shr, shr_split}
 use Rattle.std.proofs.lemmas.Bool.{and_from, and_parts, and_left, and_right, cases_eq, eq-eqb, ne_eqb, eqb-true, le-leb, leb-true, lt-ltb, or_right, cond-true, cond-false}
 use Rattle.std.proofs.lemmas.Bool.Decides.{same_from_decides}
 use Rattle.fields.specs.Lists.{any}
-use Rattle.fields.specs.Lengths.{first_bits_lem}
+use Rattle.fields.specs.Lengths.{first_bits}
 use Rattle.fields.specs.Numbering.{itself}
 use Rattle.fields.specs.Prefixes.{within}
 use Rattle.fields.specs.PrefixLaws.{whole, low, tail, within_from, within_shorter, within_agrees, outermost, prefix_nest}
@@ -35,7 +35,7 @@ module _ {w s : ℕ} (p : Prefix w s) where
 
   -- q is the first n bits of p
   abbrev front : ℕ → Prefix w s → Bool
-  front n q = eqb q.length n && eqb q.number (first_bits_lem w n p.number * 2 ^ (w - n))
+  front n q = eqb q.length n && eqb q.number (first_bits w n p.number * 2 ^ (w - n))
 
   front_layer : (n : ℕ) (q : Prefix w s) → (leb n p.length && front n q) ≡ layer n q
   front_layer n q = same_from_decides {P = (q.length ≡ n) × (within w s p q ≡ true)} _ _ (from, to) ((λ h. (eqb-true _ _ (and_parts (within w s p q) _ h).1, (and_parts _ _ h).0)), (λ h. and_from _ _ h.1 (eq-eqb _ _ h.0)))
@@ -45,15 +45,15 @@ module _ {w s : ℕ} (p : Prefix w s) where
           let l = leb-true n p.length (and_parts _ _ h).0 in
           let f = and_parts (eqb q.length n) _ (and_parts (leb n p.length) _ h).1 in
           let e = eqb-true q.length n f.0 in
-          let agree : first_bits_lem w n p.number ≡ first_bits_lem w n q.number = sym (ap (λ (x : ℕ). x / 2 ^ (w - n)) (eqb-true _ _ f.1) ∙ shl-shr (first_bits_lem w n p.number) (w - n)) in
-          (e, within_from p q (omega arith) (subst (λ (k : ℕ). first_bits_lem w k p.number ≡ first_bits_lem w k q.number) (sym e) agree))
+          let agree : first_bits w n p.number ≡ first_bits w n q.number = sym (ap (λ (x : ℕ). x / 2 ^ (w - n)) (eqb-true _ _ f.1) ∙ shl-shr (first_bits w n p.number) (w - n)) in
+          (e, within_from p q (omega arith) (subst (λ (k : ℕ). first_bits w k p.number ≡ first_bits w k q.number) (sym e) agree))
 
       to : (q.length ≡ n) × (within w s p q ≡ true) → (leb n p.length && front n q) ≡ true
       to h =
           let l = within_shorter p q h.1 in
           let k = ap (λ (x : ℕ). x * 2 ^ (w - q.length)) (within_agrees p q h.1) in
-          let e : q.number ≡ first_bits_lem w q.length p.number * 2 ^ (w - q.length) = omega (arith, shr_split q.number (w - q.length), tail q) in
-          and_from _ _ (le-leb n p.length (omega (arith, h.0))) (and_from _ _ (eq-eqb _ _ h.0) (eq-eqb _ _ (subst (λ (m : ℕ). q.number ≡ first_bits_lem w m p.number * 2 ^ (w - m)) h.0 e)))
+          let e : q.number ≡ first_bits w q.length p.number * 2 ^ (w - q.length) = omega (arith, shr_split q.number (w - q.length), tail q) in
+          and_from _ _ (le-leb n p.length (omega (arith, h.0))) (and_from _ _ (eq-eqb _ _ h.0) (eq-eqb _ _ (subst (λ (m : ℕ). q.number ≡ first_bits w m p.number * 2 ^ (w - m)) h.0 e)))
 
   -- bit n of the map is set exactly if there is a prefix of the length n around p
   abbrev pub Layered : List (Prefix w s) → ℕ → Type 0
@@ -94,7 +94,7 @@ module _ {w s : ℕ} (p : Prefix w s) where
 
   -- of two prefixes around p that are equally long each lies within the other
   alike : (x y : Prefix w s) → within w s p x ≡ true → within w s p y ≡ true → x.length ≡ y.length → within w s x y ≡ true
-  alike x y a b e = within_from x y (omega arith) (subst (λ (k : ℕ). first_bits_lem w k x.number ≡ first_bits_lem w k p.number) e (sym (within_agrees p x a)) ∙ within_agrees p y b)
+  alike x y a b e = within_from x y (omega arith) (subst (λ (k : ℕ). first_bits w k x.number ≡ first_bits w k p.number) e (sym (within_agrees p x a)) ∙ within_agrees p y b)
 
   -- the marked prefixes around p, and p itself: as many as their lengths
   by_length : (qs : List (Prefix w s)) → length (filter (within w s p) (marked (within w s) (whole w s) qs)) ≡ tally (λ n. cond (any (layer n) (whole w s ∷ qs)) 1 0) 64

@@ -3,7 +3,7 @@
 
 ghost use Rattle.std.specs.Prelude.{◌≡◌, IfOk, IfErr, string_bytes};
 ghost use Rattle.fields.specs.declared.refusal.Refusal.TheVariants.{Memory};
-ghost use Rattle.listing.specs.Listing.{sheet_text_lem};
+ghost use Rattle.listing.specs.Listing.{sheet_text};
 
 use fields::numbers::PrefixLength;
 use fields::refusal::Refusal;
@@ -37,7 +37,7 @@ const BLANK: RuleRow = RuleRow {
 
 // The rules of a sheet as lines of text, or a line with its fault.
 pub fn sheet_text(heap: Global, bytes: &[u8]) -> Result<String, Refusal>
-    ensures text { IfOk result (λ t. string_bytes t ≡ sheet_text_lem bytes.now) }
+    ensures text { IfOk result (λ t. string_bytes t ≡ sheet_text bytes.now) }
     ensures want { IfErr result (λ e. e ≡ Memory) }
 {
     if bytes.len() > MOST_BYTES {

@@ -30,5 +30,5 @@ answer_text (Some n) s = refusal_line n
 answer_text None s = shown_text s
 
 -- a file of over 65,536 bytes is not looked into
-abbrev pub packet_text_lem : List ℕ → List ℕ
-packet_text_lem bs = cond (nat_lt 65536 (length bs)) (refusal_line 9) (answer_text (packet_refusal bs) (packet_shown bs))
+abbrev pub packet_text : List ℕ → List ℕ
+packet_text bs = cond (nat_lt 65536 (length bs)) (refusal_line 9) (answer_text (packet_refusal bs) (packet_shown bs))

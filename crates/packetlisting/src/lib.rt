@@ -6,7 +6,7 @@ ghost use Rattle.fields.specs.Refusals.{code};
 ghost use Rattle.fields.specs.declared.refusal.Refusal.TheVariants.{Memory};
 ghost use Rattle.lines.specs.Lines.{refusal_line};
 ghost use Rattle.packets.specs.Packets.{follows_of, part_of, place_of, shown};
-ghost use Rattle.packetlisting.specs.PacketText.{header_text, name as name_of, rest_text, shown_text, packet_text_lem};
+ghost use Rattle.packetlisting.specs.PacketText.{header_text, name as name_of, rest_text, shown_text, packet_text};
 
 use fields::refusal::Refusal;
 use packets::header::Header;
@@ -115,7 +115,7 @@ fn lines_of_packet(heap: Global, packet: Packet<'_>) -> Result<String, Refusal>
 
 // What is printed of the bytes of a file that should be one packet.
 pub fn packet_text(heap: Global, bytes: &[u8]) -> Result<String, Refusal>
-    ensures text { IfOk result (λ t. string_bytes t ≡ packet_text_lem bytes.now) }
+    ensures text { IfOk result (λ t. string_bytes t ≡ packet_text bytes.now) }
     ensures want { IfErr result (λ e. e ≡ Memory) }
 {
     if bytes.len() > MOST_BYTES {

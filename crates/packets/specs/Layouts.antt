@@ -1,7 +1,7 @@
 -- What the layout of a packet says of its bytes, once the packet passed its tests.
 use Rattle.std.specs.Prelude.{◌≡◌, ℕ, ◌+◌, ◌≤◌, Bool, true, ◌&&◌, ◌||◌, List, length, ◌==◌}
 use Rattle.fields.specs.declared.sides.Sides.{Sides}
-use Rattle.packets.specs.Packets.{start, total, offset, protocol, has_ports_lem, header, packet_shown, follows_of, part_of, place_of}
+use Rattle.packets.specs.Packets.{start, total, offset, protocol, has_ports, header, packet_shown, follows_of, part_of, place_of}
 use Rattle.packets.specs.declared.layout.Layout.{Layout}
 use Rattle.packets.specs.declared.packet.Rest.{Rest}
 
@@ -16,7 +16,7 @@ pub record LaidOut (bs : List ℕ) (l : Layout) : Type 0 where
   pub protocol_is : l.protocol ≡ protocol bs
   pub begins : start bs ≤ total bs
   pub ends : total bs ≤ length bs
-  pub ports_fit : has_ports_lem bs ≡ true → start bs + 4 ≤ total bs
+  pub ports_fit : has_ports bs ≡ true → start bs + 4 ≤ total bs
 
 abbrev pub ports_in : List ℕ → Sides ℕ
 ports_in bs = (header bs).ports

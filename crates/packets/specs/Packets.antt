@@ -29,8 +29,8 @@ module _ (bs : List ℕ) where
   protocol = byte bs 9
 
   -- TCP or UDP at fragment offset 0: the ports follow the header
-  abbrev pub has_ports_lem : Bool
-  has_ports_lem = offset == 0 && (protocol == 6 || protocol == 17)
+  abbrev pub has_ports : Bool
+  has_ports = offset == 0 && (protocol == 6 || protocol == 17)
 
   abbrev pub packet_refusal : Option ℕ
   packet_refusal = first (
@@ -38,13 +38,13 @@ module _ (bs : List ℕ) where
       record { fails = not (version == 4); refuses = 17 } ∷
       record { fails = nat_lt words 5; refuses = 18 } ∷
       record { fails = nat_lt total start || nat_lt (length bs) total; refuses = 19 } ∷
-      record { fails = has_ports_lem && nat_lt (total - start) 4; refuses = 20 } ∷ [])
+      record { fails = has_ports && nat_lt (total - start) 4; refuses = 20 } ∷ [])
 
   -- a packet without readable ports has both ports 0
   abbrev pub header : Header
   header = record {
     addresses = record { source = four bs 12; destination = four bs 16 };
-    ports = record { source = cond has_ports_lem (two bs start) 0; destination = cond has_ports_lem (two bs (start + 2)) 0 };
+    ports = record { source = cond has_ports (two bs start) 0; destination = cond has_ports (two bs (start + 2)) 0 };
     protocol = protocol;
   }
 

@@ -7,8 +7,8 @@ use Rattle.fields.specs.Prefixes.{make}
 use Rattle.fields.specs.PrefixLaws.{make_is, make_lacks, make_beyond}
 use Rattle.fields.specs.Refusals.{first, refusal}
 use Rattle.sheets.specs.Rows.{or_else}
-use Rattle.sheets.specs.Words.{kind, size, low, kind_due_lem}
-use Rattle.sheets.specs.Reading.{at, in_form_lem, lacking, passing, pattern_at, address_at}
+use Rattle.sheets.specs.Words.{kind, size, low, kind_due}
+use Rattle.sheets.specs.Reading.{at, in_form, lacking, passing, pattern_at, address_at}
 use Rattle.sheets.specs.declared.part.Side.{Side}
 use Rattle.sheets.specs.declared.part.Part.{Part}
 use Rattle.sheets.specs.declared.part.Part.TheVariants.{Upper, Lower, Port, Protocol}
@@ -70,7 +70,7 @@ split_tests false false false d e = refl
 
 module _ (ws : List ℕ) where
   part_due : (p : Part) (i : ℕ) → or_else (form_refusal ws p i) (cond (lacking ws p i) (Some 2) (cond (passing ws p i) (Some 3) None)) ≡ due_refusal ws p i
-  part_due p i = split_tests (leb (length ws) i) (not (eqb (kind (at ws i)) (kind_due_lem p))) (not (in_form_lem ws p i)) (lacking ws p i) (passing ws p i)
+  part_due p i = split_tests (leb (length ws) i) (not (eqb (kind (at ws i)) (kind_due p))) (not (in_form ws p i)) (lacking ws p i) (passing ws p i)
 
   -- the patterns that take one word
   pub port_due : (s : Side) (i : ℕ) → or_else (form_refusal ws (Port s) i) (refusal (make 16 1 (size (at ws i)) (low (at ws i)))) ≡ due_refusal ws (Port s) i

@@ -4,8 +4,8 @@ use Rattle.std.specs.List.{AllByRecursion}
 use Rattle.fields.specs.Refusals.{first, code}
 use Rattle.fields.specs.declared.refusal.Refusal.{Refusal}
 use Rattle.sheets.specs.Faults.{fault_at}
-use Rattle.sheets.specs.Words.{kind, rest, kind_due_lem}
-use Rattle.sheets.specs.Reading.{Verdict, accepted, refused, fault, words, at, ends, in_form_lem, part_refusal, opening_refusal, rules, words_read}
+use Rattle.sheets.specs.Words.{kind, rest, kind_due}
+use Rattle.sheets.specs.Reading.{Verdict, accepted, refused, fault, words, at, ends, in_form, part_refusal, opening_refusal, rules, words_read}
 use Rattle.sheets.specs.declared.part.Part.{Part}
 use Rattle.sheets.specs.declared.row.RuleRow.{RuleRow}
 use Rattle.sheets.specs.declared.fault.Fault.{Fault}
@@ -38,8 +38,8 @@ module _ (ws : List ℕ) where
   -- of the tests for a part, those before its length and its number are looked at
   abbrev pub form_refusal : Part → ℕ → Option ℕ
   form_refusal p i = missing_or (first (
-      record { fails = not (kind (at ws i) == kind_due_lem p); refuses = 11 } ∷
-      record { fails = not (in_form_lem ws p i); refuses = 12 } ∷ [])) i
+      record { fails = not (kind (at ws i) == kind_due p); refuses = 11 } ∷
+      record { fails = not (in_form ws p i); refuses = 12 } ∷ [])) i
 
   abbrev pub due_refusal : Part → ℕ → Option ℕ
   due_refusal p i = missing_or (part_refusal ws p i) i

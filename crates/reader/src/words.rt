@@ -1,7 +1,7 @@
 // The word reader.
 ghost use Rattle.std.specs.Prelude.{◌≡◌, [], ◌∷◌, None};
-ghost use Rattle.sheets.specs.Reading.{at, pattern_at, in_form_lem};
-ghost use Rattle.sheets.specs.Words.{kind, rest, side, size, low, kind_due_lem, side_of};
+ghost use Rattle.sheets.specs.Reading.{at, pattern_at, in_form};
+ghost use Rattle.sheets.specs.Words.{kind, rest, side, size, low, kind_due, side_of};
 ghost use Rattle.reader.specs.Readers.{words_of, Reads, missing_or, form_refusal};
 
 use fields::numbers::PrefixLength;
@@ -62,7 +62,7 @@ fn word_low(w: u32) -> u32
 }
 
 fn kind_due(part: Part) -> u32
-    ensures { result ≡ kind_due_lem part }
+    ensures { result ≡ kind_due part }
 {
     match part {
         Part::Upper(_) => 2,
@@ -83,7 +83,7 @@ fn side_bit(s: Side) -> u32
 
 // Whether the bits of a part's word that have to be 0 are, and its side is the right one.
 fn in_form(part: Part, w: u32) -> bool
-    ensures { result ≡ in_form_lem (w ∷ []) part 0 }
+    ensures { result ≡ in_form (w ∷ []) part 0 }
 {
     match part {
         Part::Upper(s) | Part::Port(s) => word_side(w) == side_bit(s) && word_low(w) < 1 << 16,

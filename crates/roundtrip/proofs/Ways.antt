@@ -6,7 +6,7 @@ use Rattle.std.proofs.lemmas.Bool.{le-ltb, cond-false}
 use Rattle.fields.specs.Refusals.{code, refusal}
 use Rattle.fields.specs.declared.refusal.Refusal.{Refusal}
 use Rattle.sheets.specs.Rows.{or_else, rows_refusal}
-use Rattle.sheets.specs.Format.{Sheet, sheet_bytes_lem}
+use Rattle.sheets.specs.Format.{Sheet, sheet_bytes}
 use Rattle.sheets.specs.Writing.{write_refusal, written}
 use Rattle.sheets.specs.Reading.{Verdict, accepted, refused, Answers, listed, sheet_read}
 use Rattle.sheets.specs.declared.row.RuleRow.{RuleRow}
@@ -32,15 +32,15 @@ module _ (rules : List RuleRow) (before : List ℕ) (ok : None ≡ write_refusal
   ordered : rows_refusal 0 rules ≡ None
   ordered = first_none (rows_refusal 0 rules) _ ok
 
-  out_is : (after : List ℕ) → after ≡ written (write_refusal rules (length before)) rules before → after ≡ sheet_bytes_lem rules ++ drop (length (sheet_bytes_lem rules)) before
+  out_is : (after : List ℕ) → after ≡ written (write_refusal rules (length before)) rules before → after ≡ sheet_bytes rules ++ drop (length (sheet_bytes rules)) before
   out_is after e = e ∙ ap (λ (o : Option ℕ). written o rules before) (sym ok)
 
-  module _ (law : WrittenIsRead) (places size : ℕ) (room : length rules ≤ places) (count : size ≡ length (sheet_bytes_lem rules)) where
+  module _ (law : WrittenIsRead) (places size : ℕ) (room : length rules ≤ places) (count : size ≡ length (sheet_bytes rules)) where
     -- it reads as the same rules
     pub reads_back : (after : List ℕ) → after ≡ written (write_refusal rules (length before)) rules before → sheet_read (take (size - 0) after) places ≡ accepted rules
     reads_back after e =
-        let z : length (sheet_bytes_lem rules) ≡ size - 0 = omega arith in
-        let t = ap (take (size - 0)) (out_is after e) ∙ take_at (sheet_bytes_lem rules) (drop (length (sheet_bytes_lem rules)) before) (size - 0) z in
+        let z : length (sheet_bytes rules) ≡ size - 0 = omega arith in
+        let t = ap (take (size - 0)) (out_is after e) ∙ take_at (sheet_bytes rules) (drop (length (sheet_bytes rules)) before) (size - 0) z in
         law (take (size - 0) after) rules places (record { ordered = ordered; written = t }) room
 
     pub trip : (v : Verdict) → v ≡ accepted rules → (n : ℕ) (list list' : List RuleRow) → Answers v (Ok n) → list' ≡ listed v list → Reread rules list list' n
@@ -67,12 +67,12 @@ module _ (law : ReadIsWritten) (bytes : List ℕ) (bounded : AllByRecursion (λ 
   refuses : (n : ℕ) → room_refusal (length bytes) n ≡ write_refusal rules n
   refuses n =
       ap (λ (bs : List ℕ). room_refusal (length bs) n) sheet.written
-      ∙ or_none (rows_refusal 0 rules) (room_refusal (length (sheet_bytes_lem rules)) n) ordered'
+      ∙ or_none (rows_refusal 0 rules) (room_refusal (length (sheet_bytes rules)) n) ordered'
 
   pub again : (v : Verdict) → v ≡ accepted rules → (n : ℕ) (r : Result ℕ Refusal) → refusal r ≡ write_refusal rules n → refusal r ≡ rewrite_refusal v (length bytes) n
   again v e n r a = a ∙ sym (refuses n) ∙ ap (λ (u : Verdict). rewrite_refusal u (length bytes) n) (sym e)
 
-  pub same_bytes : (before after : List ℕ) (r : Result ℕ Refusal) → refusal r ≡ write_refusal rules (length before) → IfOk r (λ n. n ≡ length (sheet_bytes_lem rules)) →
+  pub same_bytes : (before after : List ℕ) (r : Result ℕ Refusal) → refusal r ≡ write_refusal rules (length before) → IfOk r (λ n. n ≡ length (sheet_bytes rules)) →
       after ≡ written (write_refusal rules (length before)) rules before → IfOk r (λ n. Rewritten bytes before after n)
   same_bytes before after (Ok n) a c e = record {
     counted = c ∙ ap length (sym sheet.written);

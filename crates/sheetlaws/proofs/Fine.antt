@@ -4,8 +4,8 @@ use Rattle.std.proofs.lemmas.Bool.{eqb-true, eq-eqb, ltb-true, ltb-false, lt-ltb
 use Rattle.fields.specs.Lengths.{has, clean}
 use Rattle.fields.specs.Refusals.{first}
 use Rattle.sheets.specs.Rows.{any_lacks, any_beyond, row_refusal}
-use Rattle.sheets.specs.Words.{kind, rest, side, size, low, kind_due_lem, side_due, bits_due}
-use Rattle.sheets.specs.Reading.{at, opens, ends, least, opening_refusal, in_form_lem, lacking, passing, part_refusal}
+use Rattle.sheets.specs.Words.{kind, rest, side, size, low, kind_due, side_due, bits_due}
+use Rattle.sheets.specs.Reading.{at, opens, ends, least, opening_refusal, in_form, lacking, passing, part_refusal}
 use Rattle.sheets.specs.declared.part.Part.{Part}
 use Rattle.sheets.specs.declared.part.Part.TheVariants.{Upper, Lower, Port, Protocol}
 use Rattle.sheets.specs.declared.row.PatternRow.{PatternRow}
@@ -51,13 +51,13 @@ Fits (Port s) u w = (has 16 1 (size w) ≡ true) × (clean 16 (size w) (low w) �
 Fits Protocol u w = (has 8 8 (size w) ≡ true) × (clean 8 (size w) (low w) ≡ true)
 
 pub record Fine (p : Part) (u w : ℕ) : Type 0 where
-  pub is_kind : kind w ≡ kind_due_lem p
+  pub is_kind : kind w ≡ kind_due p
   pub is_side : side w ≡ side_due p
   pub narrow : low w < 2 ^ bits_due p
   pub fits : Fits p u w
 
 module _ (ws : List ℕ) (i : ℕ) where
-  form_from : (p : Part) → in_form_lem ws p i ≡ true → lacking ws p i ≡ false → passing ws p i ≡ false → kind (at ws i) ≡ kind_due_lem p → Fine p (at ws (i - 1)) (at ws i)
+  form_from : (p : Part) → in_form ws p i ≡ true → lacking ws p i ≡ false → passing ws p i ≡ false → kind (at ws i) ≡ kind_due p → Fine p (at ws (i - 1)) (at ws i)
   form_from (Upper s) f l b k =
       let t = and_parts _ _ f in
       record { is_kind = k; is_side = eqb-true _ _ t.0; narrow = ltb-true _ _ t.1; fits = not-false _ l }
@@ -72,7 +72,7 @@ module _ (ws : List ℕ) (i : ℕ) where
       let t = and_parts _ _ f in
       record { is_kind = k; is_side = eqb-true _ _ t.0; narrow = ltb-true _ _ t.1; fits = (not-false _ l, not-false _ b) }
 
-  form_to : (p : Part) → Fine p (at ws (i - 1)) (at ws i) → (in_form_lem ws p i ≡ true) × (lacking ws p i ≡ false) × (passing ws p i ≡ false)
+  form_to : (p : Part) → Fine p (at ws (i - 1)) (at ws i) → (in_form ws p i ≡ true) × (lacking ws p i ≡ false) × (passing ws p i ≡ false)
   form_to (Upper s) f = (and_from _ _ (eq-eqb _ _ f.is_side) (lt-ltb _ _ f.narrow), not_from_true _ f.fits, refl)
   form_to (Lower s) f = (and_from _ _ (and_from _ _ (eq-eqb _ _ f.is_side) (eq-eqb _ _ f.fits.0)) (lt-ltb _ _ f.narrow), refl, not_from_true _ f.fits.1)
   form_to (Port s) f = (and_from _ _ (eq-eqb _ _ f.is_side) (lt-ltb _ _ f.narrow), not_from_true _ f.fits.0, not_from_true _ f.fits.1)
@@ -80,7 +80,7 @@ module _ (ws : List ℕ) (i : ℕ) where
 
   pub part_is : (p : Part) → (part_refusal ws p i ≡ None → Fine p (at ws (i - 1)) (at ws i)) × (Fine p (at ws (i - 1)) (at ws i) → part_refusal ws p i ≡ None)
   part_is p =
-      let t = tests 11 12 2 3 (not (eqb (kind (at ws i)) (kind_due_lem p))) (not (in_form_lem ws p i)) (lacking ws p i) (passing ws p i) in (
+      let t = tests 11 12 2 3 (not (eqb (kind (at ws i)) (kind_due p))) (not (in_form ws p i)) (lacking ws p i) (passing ws p i) in (
         (λ h. let q = t.0 h in form_from p (not-false _ q.1) q.2 q.3 (eqb-true _ _ (not-false _ q.0))),
         (λ f. let q = form_to p f in t.1 (not_from_true _ (eq-eqb _ _ f.is_kind), not_from_true _ q.0, q.1, q.2)),
       )

@@ -5,7 +5,7 @@ use Rattle.std.proofs.lemmas.List.FromFn.{get_or-range_with_len}
 use Rattle.std.proofs.ByRecursion.{All-get_or}
 use Rattle.std.proofs.lemmas.Bool.{and_parts, leb-true, ltb-true}
 use Rattle.fields.specs.Lengths.{has, clean}
-use Rattle.sheets.specs.Words.{kind, rest, side, size, low, side_of, kind_due_lem, side_due, bits_due, word}
+use Rattle.sheets.specs.Words.{kind, rest, side, size, low, side_of, kind_due, side_due, bits_due, word}
 use Rattle.sheets.specs.Format.{rule_words}
 use Rattle.sheets.specs.Reading.{parts}
 use Rattle.sheets.specs.declared.part.Side.{Side}
@@ -93,7 +93,7 @@ bounds (Port s) = (side_below s, omega arith)
 bounds Protocol = (omega arith, omega arith)
 
 record Told (p : Part) (l n w : ℕ) : Type 0 where
-  is_kind : kind w ≡ kind_due_lem p
+  is_kind : kind w ≡ kind_due p
   is_side : side w ≡ side_due p
   is_size : size w ≡ l
   is_low : low w ≡ n

@@ -2,7 +2,7 @@
 use Rattle.std.specs.Prelude.{◌≡◌, ℕ, List, [], ◌∷◌, take, slice_set}
 use Rattle.std.specs.List.{flat_map}
 use Rattle.sheets.specs.Words.{word_bytes}
-use Rattle.sheets.specs.Format.{sheet_words, sheet_bytes_lem}
+use Rattle.sheets.specs.Format.{sheet_words, sheet_bytes}
 use Rattle.sheets.specs.Reading.{Verdict, accepted, refused, sheet_read}
 use Rattle.sheets.specs.declared.row.PatternRow.{PatternRow}
 use Rattle.sheets.specs.declared.row.RuleRow.{RuleRow}
@@ -34,8 +34,8 @@ abbrev pub computed : Results
 computed = record {
   words = sheet_words (rule_one ∷ []);
   verdicts =
-      sheet_read (sheet_bytes_lem (rule_one ∷ [])) 1 ∷ sheet_read (sheet_bytes_lem (rule_one ∷ [])) 0 ∷ sheet_read (sheet_bytes_lem []) 0 ∷
-      sheet_read [] 1 ∷ sheet_read (take 5 (sheet_bytes_lem (rule_one ∷ []))) 1 ∷ sheet_read (take 12 (sheet_bytes_lem (rule_one ∷ []))) 1 ∷
+      sheet_read (sheet_bytes (rule_one ∷ [])) 1 ∷ sheet_read (sheet_bytes (rule_one ∷ [])) 0 ∷ sheet_read (sheet_bytes []) 0 ∷
+      sheet_read [] 1 ∷ sheet_read (take 5 (sheet_bytes (rule_one ∷ []))) 1 ∷ sheet_read (take 12 (sheet_bytes (rule_one ∷ []))) 1 ∷
       damaged 0 0xC000_0000 ∷ damaged 0 0x2000_0100 ∷ damaged 1 0x4840_0A00 ∷ damaged 2 0x6000_0001 ∷ damaged 2 0x7000_0000 ∷
       damaged 4 0xC000_0000 ∷ damaged 7 0xA1C0_0000 ∷ damaged 8 0xC000_0002 ∷ damaged 8 0x2000_0001 ∷ [];
 }

@@ -26,10 +26,10 @@ rule_words r =
 abbrev pub sheet_words : List RuleRow → List ℕ
 sheet_words rs = flat_map rule_words rs ++ ((6 * 2 ^ 29 + length rs) ∷ [])
 
-abbrev pub sheet_bytes_lem : List RuleRow → List ℕ
-sheet_bytes_lem rs = flat_map word_bytes (sheet_words rs)
+abbrev pub sheet_bytes : List RuleRow → List ℕ
+sheet_bytes rs = flat_map word_bytes (sheet_words rs)
 
 -- the bytes are the sheet of these rules, whose numbers ascend and whose patterns are those of their kinds
 pub record Sheet (bytes : List ℕ) (rules : List RuleRow) : Type 0 where
   pub ordered : rows_refusal 0 rules ≡ None
-  pub written : bytes ≡ sheet_bytes_lem rules
+  pub written : bytes ≡ sheet_bytes rules

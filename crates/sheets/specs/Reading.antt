@@ -4,7 +4,7 @@ use Rattle.std.specs.List.{range_with_len}
 use Rattle.fields.specs.Lengths.{has, clean}
 use Rattle.fields.specs.Refusals.{first, code}
 use Rattle.sheets.specs.Faults.{layer_of}
-use Rattle.sheets.specs.Words.{kind, rest, side, size, low, kind_due_lem, side_due, word_at}
+use Rattle.sheets.specs.Words.{kind, rest, side, size, low, kind_due, side_due, word_at}
 use Rattle.sheets.specs.declared.part.Side.TheVariants.{Source, Destination}
 use Rattle.sheets.specs.declared.part.Part.{Part}
 use Rattle.sheets.specs.declared.part.Part.TheVariants.{Upper, Lower, Port, Protocol}
@@ -41,11 +41,11 @@ module _ (ws : List ℕ) where
       record { fails = ends i && not (rest (at i) == i / 8); refuses = 14 } ∷ [])
 
   -- a word for this part: the bits that have to be 0 are, and the side is the right one
-  abbrev pub in_form_lem : Part → ℕ → Bool
-  in_form_lem (Lower s) i = side (at i) == side_due (Lower s) && size (at i) == 0 && nat_lt (low (at i)) (2 ^ 16)
-  in_form_lem (Upper s) i = side (at i) == side_due (Upper s) && nat_lt (low (at i)) (2 ^ 16)
-  in_form_lem (Port s) i = side (at i) == side_due (Port s) && nat_lt (low (at i)) (2 ^ 16)
-  in_form_lem Protocol i = side (at i) == 0 && nat_lt (low (at i)) (2 ^ 8)
+  abbrev pub in_form : Part → ℕ → Bool
+  in_form (Lower s) i = side (at i) == side_due (Lower s) && size (at i) == 0 && nat_lt (low (at i)) (2 ^ 16)
+  in_form (Upper s) i = side (at i) == side_due (Upper s) && nat_lt (low (at i)) (2 ^ 16)
+  in_form (Port s) i = side (at i) == side_due (Port s) && nat_lt (low (at i)) (2 ^ 16)
+  in_form Protocol i = side (at i) == 0 && nat_lt (low (at i)) (2 ^ 8)
 
   -- a length that the kind lacks
   abbrev pub lacking : Part → ℕ → Bool
@@ -63,8 +63,8 @@ module _ (ws : List ℕ) where
 
   abbrev pub part_refusal : Part → ℕ → Option ℕ
   part_refusal p i = first (
-      record { fails = not (kind (at i) == kind_due_lem p); refuses = 11 } ∷
-      record { fails = not (in_form_lem p i); refuses = 12 } ∷
+      record { fails = not (kind (at i) == kind_due p); refuses = 11 } ∷
+      record { fails = not (in_form p i); refuses = 12 } ∷
       record { fails = lacking p i; refuses = 2 } ∷
       record { fails = passing p i; refuses = 3 } ∷ [])
 

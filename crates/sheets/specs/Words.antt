@@ -30,11 +30,11 @@ abbrev pub side_of : Side → ℕ
 side_of Source = 0
 side_of Destination = 1
 
-abbrev pub kind_due_lem : Part → ℕ
-kind_due_lem (Upper s) = 2
-kind_due_lem (Lower s) = 3
-kind_due_lem (Port s) = 4
-kind_due_lem Protocol = 5
+abbrev pub kind_due : Part → ℕ
+kind_due (Upper s) = 2
+kind_due (Lower s) = 3
+kind_due (Port s) = 4
+kind_due Protocol = 5
 
 abbrev pub side_due : Part → ℕ
 side_due (Upper s) = side_of s
@@ -51,7 +51,7 @@ bits_due Protocol = 8
 
 -- the word of a part with a length and a number
 abbrev pub word : Part → ℕ → ℕ → ℕ
-word p l n = kind_due_lem p * 2 ^ 29 + side_due p * 2 ^ 28 + l * 2 ^ 22 + n
+word p l n = kind_due p * 2 ^ 29 + side_due p * 2 ^ 28 + l * 2 ^ 22 + n
 
 -- ---- words and bytes, the highest byte first
 abbrev pub word_at : List ℕ → ℕ → ℕ

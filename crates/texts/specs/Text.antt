@@ -43,5 +43,5 @@ abbrev pub line : List ℕ → List ℕ
 line text = text ++ (10 ∷ [])
 
 -- a line for each rule
-abbrev pub rules_lines_lem : List RuleRow → List ℕ
-rules_lines_lem rs = flat_map (λ r. line (rule_text r)) rs
+abbrev pub rules_lines : List RuleRow → List ℕ
+rules_lines rs = flat_map (λ r. line (rule_text r)) rs

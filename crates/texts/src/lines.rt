@@ -2,7 +2,7 @@
 ghost use Rattle.std.specs.Prelude.{◌≡◌, IfOk, IfErr, string_bytes};
 ghost use Rattle.fields.specs.declared.refusal.Refusal.TheVariants.{Memory};
 ghost use Rattle.fields.specs.Refusals.{code};
-ghost use Rattle.texts.specs.Text.{fault_text, line, rules_lines_lem};
+ghost use Rattle.texts.specs.Text.{fault_text, line, rules_lines};
 
 use crate::{FaultText, RuleText};
 use fields::refusal::Refusal;
@@ -13,7 +13,7 @@ use std::fmt::Write;
 
 // A line for each rule.
 pub fn rules_lines(heap: Global, rules: &[RuleRow]) -> Result<String, Refusal>
-    ensures text { IfOk result (λ t. string_bytes t ≡ rules_lines_lem rules.now) }
+    ensures text { IfOk result (λ t. string_bytes t ≡ rules_lines rules.now) }
     ensures want { IfErr result (λ e. e ≡ Memory) }
 {
     let mut text = String::new(heap);

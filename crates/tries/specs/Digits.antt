@@ -3,7 +3,7 @@ use Rattle.std.specs.Prelude.{◌≡◌, ℕ, zero, suc, ◌+◌, ◌-◌, ◌*�
 use Rattle.std.proofs.Common.{sym, ap, ◌∙◌, subst, ⊎_elim, mod-eq_of_lt, arith}
 use Rattle.std.proofs.lemmas.Nat.{shr-shr, shr_below, mod-pow-add, mod_below, field_of}
 use Rattle.std.proofs.lemmas.Bool.{eqb-true, eq-eqb, cases_eq}
-use Rattle.fields.specs.Lengths.{first_bits_lem}
+use Rattle.fields.specs.Lengths.{first_bits}
 
 -- the bit at a place, counted from the lowest
 unfoldable pub digit : ℕ → ℕ → Bool
@@ -73,10 +73,10 @@ back (suc l) j (suc w) n m e h =
     ap (λ (z : ℕ). n / 2 ^ j % 2 ^ z) k ∙ x ∙ ap (λ (z : ℕ). z * 2 ^ l + n / 2 ^ j % 2 ^ l) f ∙ ap (λ (z : ℕ). m / 2 ^ j / 2 ^ l % 2 * 2 ^ l + z) c ∙ sym y ∙ ap (λ (z : ℕ). m / 2 ^ j % 2 ^ z) (sym k)
 
 -- two numbers agree in their first bits just where the bits agree
-pub agree : (w l n m : ℕ) → l ≤ w → first_bits_lem w l n ≡ first_bits_lem w l m → take l (digits w n) ≡ take l (digits w m)
+pub agree : (w l n m : ℕ) → l ≤ w → first_bits w l n ≡ first_bits w l m → take l (digits w n) ≡ take l (digits w m)
 agree w l n m le e = front l (w - l) w n m (omega arith) e
 
-pub agrees : (w l n m : ℕ) → l ≤ w → n < 2 ^ w → m < 2 ^ w → take l (digits w n) ≡ take l (digits w m) → first_bits_lem w l n ≡ first_bits_lem w l m
+pub agrees : (w l n m : ℕ) → l ≤ w → n < 2 ^ w → m < 2 ^ w → take l (digits w n) ≡ take l (digits w m) → first_bits w l n ≡ first_bits w l m
 agrees w l n m le a b e =
     let s : w ≡ l + (w - l) = omega arith in
     let f = back l (w - l) w n m s e in

@@ -1,7 +1,7 @@
 // Words into bytes.
 ghost use Rattle.std.specs.Prelude.{◌≡◌, ◌+◌, ◌*◌, ◌≤◌, length};
 ghost use Rattle.std.specs.List.{flat_map, AllByRecursion};
-ghost use Rattle.sheets.specs.Format.{sheet_bytes_lem};
+ghost use Rattle.sheets.specs.Format.{sheet_bytes};
 ghost use Rattle.sheets.specs.Words.{word_bytes};
 ghost use Rattle.writer.specs.Fitting.{Fitting};
 ghost use Rattle.octets.specs.Output.{put_at};
@@ -50,7 +50,7 @@ pub(crate) fn put_sheet(out: &mut [u8], rules: &[RuleRow])
     requires fit { AllByRecursion Fitting rules.now }
     requires few { length rules.now ≤ 256 }
     requires room { 32 * length rules.now + 4 ≤ length out.old }
-    ensures { out.new ≡ put_at 0 (sheet_bytes_lem rules.now) out.old }
+    ensures { out.new ≡ put_at 0 (sheet_bytes rules.now) out.old }
 {
     put_rules(out, rules);
     let count = rules.len();

@@ -1,7 +1,7 @@
 // Rules into words.
 ghost use Rattle.std.specs.Prelude.{◌≡◌, ◌+◌, ◌*◌, ◌/◌, ◌%◌, ◌^◌, ◌<◌, ◌≤◌};
 ghost use Rattle.sheets.specs.Format.{rule_words};
-ghost use Rattle.sheets.specs.Words.{side_of, kind_due_lem, side_due, word};
+ghost use Rattle.sheets.specs.Words.{side_of, kind_due, side_due, word};
 ghost use Rattle.writer.specs.Fitting.{Fitting};
 
 use fields::numbers::PrefixLength;
@@ -25,7 +25,7 @@ fn side_bit(side: Side) -> u32
 
 // The kind of a part's word, and its side.
 fn part_head(part: Part) -> (u32, u32)
-    ensures { (result.0 ≡ kind_due_lem part) × (result.1 ≡ side_due part) }
+    ensures { (result.0 ≡ kind_due part) × (result.1 ≡ side_due part) }
 {
     match part {
         Part::Upper(side) => (2, side_bit(side)),
