@@ -6,8 +6,6 @@ ghost use Rattle.finders.specs.Finding.{label_place, best_label};
 ghost use Rattle.arrangement.specs.Lookups.{or_whole, key_of, screened};
 
 use fields::numbers::Label;
-use fields::perfield::PerField;
-use fields::sides::Sides;
 use keytables::key::Key;
 use keytables::table::KeyTable;
 use places::five::{Five, Supports};
@@ -30,13 +28,11 @@ pub struct Found {
     pub entry: Option<u16>,
 }
 
+// The label that was found, or that of the whole pattern.
 fn or_whole(label: Option<Label>) -> Label
     ensures { result ≡ or_whole label }
 {
-    match label {
-        Some(label) => label,
-        None => Label { place: 0 },
-    }
+    label.unwrap_or(Label { place: 0 })
 }
 
 fn key_of(subset: u8, located: Located) -> Key
@@ -44,17 +40,7 @@ fn key_of(subset: u8, located: Located) -> Key
 {
     Key {
         subset,
-        labels: PerField {
-            addresses: Sides {
-                source: or_whole(located.addresses.source),
-                destination: or_whole(located.addresses.destination),
-            },
-            ports: Sides {
-                source: or_whole(located.ports.source),
-                destination: or_whole(located.ports.destination),
-            },
-            protocol: or_whole(located.protocol),
-        },
+        labels: located.map(or_whole),
     }
 }
 

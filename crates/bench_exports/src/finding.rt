@@ -22,16 +22,12 @@ fn ask<F: Finder>(finder: &F, values: &[F::Value], mut sum: u64) -> u64
     requires { F.Finder.ready finder.now }
 {
     for v in values {
-        let answer = match finder.best(*v) {
-            Some(label) => Some(label.place),
-            None => None,
-        };
-        sum = with_answer(sum, answer);
+        sum = with_answer(sum, finder.best(*v).map(|label| label.place));
     }
     sum
 }
 
-// The checksum of all rounds, or 0 where memory was wanting.
+// The checksum of all rounds, or 0 where memory was wanting. A text of its own for each trait of a support: they have no method in common.
 pub(crate) fn best_sum<F: Finder + Drop>(
     made: Result<F, AllocError>,
     rows: &[PrefixRow],

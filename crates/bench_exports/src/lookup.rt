@@ -1,6 +1,7 @@
 // `find` in a key table.
 use crate::checksum::with_answer;
 use crate::rows::KeyRow;
+use keytables::key::Key;
 use keytables::table::KeyTable;
 use std::alloc::AllocError;
 
@@ -11,7 +12,7 @@ fn fill<T: KeyTable>(table: &mut T, rows: &[KeyRow])
     table.clear();
     let mut entry = 0u16;
     for row in rows {
-        let _ = table.put(row.key(), entry);
+        let _ = table.put(Key::from(*row), entry);
         entry = entry.wrapping_add(1);
     }
 }
@@ -22,12 +23,13 @@ fn ask<T: KeyTable>(table: &mut T, questions: &[KeyRow], mut sum: u64) -> u64
     ensures { T.KeyTable.ready table.new }
 {
     for row in questions {
-        sum = with_answer(sum, table.find(row.key()));
+        sum = with_answer(sum, table.find(Key::from(*row)));
     }
     sum
 }
 
 // The checksum of all rounds, or 0 where memory was wanting.
+// A text of its own, as in `finding`.
 pub(crate) fn find_sum<T: KeyTable + Drop>(
     made: Result<T, AllocError>,
     rows: &[KeyRow],

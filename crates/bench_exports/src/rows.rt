@@ -1,5 +1,6 @@
 // What C passes.
 ghost use Rattle.std.specs.Prelude.{◌≡◌};
+ghost use Rattle.bench_exports.specs.Rows.{key_of};
 
 use fields::numbers::{Label, PrefixLength};
 use fields::perfield::PerField;
@@ -34,36 +35,32 @@ pub struct KeyRow {
     pub protocol: u16,
 }
 
-impl KeyRow {
-    pub(crate) fn key(self) -> Key
-        ensures subset { result.subset ≡ self.subset }
-        ensures addresses { result.labels.addresses ≡ record { source = record { place = self.source }; destination = record { place = self.destination } } }
-        ensures ports { result.labels.ports ≡ record { source = record { place = self.source_port }; destination = record { place = self.destination_port } } }
-        ensures protocol { result.labels.protocol.place ≡ self.protocol }
-    {
+impl From<KeyRow> for Key {
+    ghost from_gives = { λ row key. key ≡ key_of row };
+
+    fn from(row: KeyRow) -> Key {
         let addresses = Sides {
-            source: Label { place: self.source },
+            source: Label { place: row.source },
             destination: Label {
-                place: self.destination,
+                place: row.destination,
             },
         };
         let ports = Sides {
             source: Label {
-                place: self.source_port,
+                place: row.source_port,
             },
             destination: Label {
-                place: self.destination_port,
+                place: row.destination_port,
             },
         };
-        let protocol = Label {
-            place: self.protocol,
-        };
         Key {
-            subset: self.subset,
+            subset: row.subset,
             labels: PerField {
                 addresses,
                 ports,
-                protocol,
+                protocol: Label {
+                    place: row.protocol,
+                },
             },
         }
     }

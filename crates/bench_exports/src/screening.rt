@@ -1,5 +1,6 @@
 // `ask` in a screen.
 use crate::rows::KeyRow;
+use keytables::key::Key;
 use screens::screen::Screen;
 use std::alloc::AllocError;
 
@@ -9,7 +10,7 @@ fn fill<S: Screen>(screen: &mut S, rows: &[KeyRow])
 {
     screen.clear();
     for row in rows {
-        screen.add(row.key());
+        screen.add(Key::from(*row));
     }
 }
 
@@ -18,12 +19,13 @@ fn ask<S: Screen>(screen: &S, questions: &[KeyRow], mut count: u64) -> u64
     requires { S.Screen.ready screen.now }
 {
     for row in questions {
-        count = count.wrapping_add(u64::from(screen.ask(row.key())));
+        count = count.wrapping_add(u64::from(screen.ask(Key::from(*row))));
     }
     count
 }
 
 // How often the screen said yes in all rounds; 0 where memory was wanting.
+// A text of its own, as in `finding`.
 pub(crate) fn yes_count<S: Screen + Drop>(
     made: Result<S, AllocError>,
     rows: &[KeyRow],

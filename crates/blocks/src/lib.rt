@@ -16,20 +16,21 @@ mod writing;
 const HEADER_BYTES: usize = 16;
 
 // Reads a block into a list of headers, and tells how many it has. A refused read leaves the list as it was.
+#[tactic(auto, using(crate::proofs::Headers::headers_of_block, crate::proofs::Headers::spoiled_of_block))]
 pub fn read_headers(bytes: &[u8], headers: &mut [Header]) -> Result<usize, Refusal>
     ensures answer { refusal result ≡ read_refusal bytes.now (length headers.old) }
     ensures count { IfOk result (λ n. n ≡ length bytes.now / 16) }
     ensures list { headers.new ≡ listed (read_refusal bytes.now (length headers.old)) bytes.now headers.old }
 {
-    if bytes.len() % HEADER_BYTES != 0 || reading::any_spoiled(bytes) {
+    let (block, rest) = bytes.as_chunks::<HEADER_BYTES>();
+    if !rest.is_empty() || reading::any_spoiled(block) {
         return Err(Refusal::HeaderBlock);
     }
-    let count = bytes.len() / HEADER_BYTES;
-    if headers.len() < count {
+    if headers.len() < block.len() {
         return Err(Refusal::NoRoom);
     }
-    reading::fill_list(bytes, headers);
-    Ok(count)
+    reading::fill_list(block, headers);
+    Ok(block.len())
 }
 
 // Writes the block of some headers, and tells how many bytes it has. A refused write leaves the output as it was.
@@ -46,15 +47,11 @@ pub fn write_headers(headers: &[Header], out: &mut [u8]) -> Result<usize, Refusa
 }
 
 // A written block reads back as the same headers.
-pub fn written_is_read() -> u8
+pub fn written_is_read()
     ensures { WrittenIsRead }
-{
-    0
-}
+{}
 
 // An accepted block, written again, has the same bytes.
-pub fn read_is_written() -> u8
+pub fn read_is_written()
     ensures { ReadIsWritten }
-{
-    0
-}
+{}

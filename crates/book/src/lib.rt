@@ -7,8 +7,6 @@ pub mod call;
 pub mod limits;
 
 // The worked examples, by computing.
-pub fn worked_examples() -> u8
+pub fn worked_examples()
     ensures { Worked }
-{
-    0
-}
+{}

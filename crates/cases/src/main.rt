@@ -2,6 +2,8 @@
 // bytes.
 #![tactic(auto)]
 
+ghost use Rattle.std.specs.Prelude.{◌<◌, length, IfSome};
+
 use fields::refusal::Refusal;
 use files::print_text;
 use listing::sheet_text;
@@ -9,51 +11,35 @@ use packetlisting::packet_text;
 use std::alloc::Global;
 use std::fs;
 
-#[derive(Clone, Copy)]
-enum Kind {
-    Sheet,
-    Packet,
+// The first case, and what follows it, where its length and its bytes are there.
+fn split_case(bytes: &[u8]) -> Option<(&[u8], &[u8])>
+    ensures { IfSome result (λ parts. length parts.1.now < length bytes.now) }
+{
+    let (length, rest) = bytes.split_first_chunk::<4>()?;
+    rest.split_at_checked(u32::from_be_bytes(*length) as usize)
 }
 
-// The number in the four bytes from a place on, where they are there.
-fn number_at(bytes: &[u8], at: usize) -> Option<usize> {
-    let four = bytes.get(at..at.checked_add(4)?)?;
-    let [a, b, c, d] = four else {
-        return None;
-    };
-    Some(u32::from_be_bytes([*a, *b, *c, *d]) as usize)
-}
-
-// The case whose length stands at a place.
-fn case_at(bytes: &[u8], at: usize) -> Option<&[u8]> {
-    let length = number_at(bytes, at)?;
-    let start = at.checked_add(4)?;
-    bytes.get(start..start.checked_add(length)?)
-}
-
-fn text_of(heap: Global, kind: Kind, case: &[u8]) -> Result<String, Refusal> {
-    match kind {
-        Kind::Sheet => sheet_text(heap, case),
-        Kind::Packet => packet_text(heap, case),
-    }
-}
-
-fn run(rt: &HostRuntime, path: &str, kind: Kind) -> anyhow::Result<()> {
+// Prints what a function makes of every case of a file.
+fn run<F: Fn(Global, &[u8]) -> Result<String, Refusal>>(
+    rt: &HostRuntime,
+    path: &str,
+    text_of: F,
+) -> anyhow::Result<()>
+    requires { F.IsAlwaysCallable text_of }
+{
     let all = fs::read(rt, path)?;
     let bytes = all.as_slice();
-    let mut at = 0usize;
-    for _ in 0..bytes.len() {
-        let Some(case) = case_at(bytes, at) else {
-            break;
-        };
-        print_text(rt, text_of(rt.alloc(), kind, case))?;
-        at = at.saturating_add(4).saturating_add(case.len());
+    let mut rest = bytes;
+    while let Some((case, others)) = split_case(rest) {
+        print_text(rt, text_of(rt.alloc(), case))?;
+        rest = others;
     }
+    let at = bytes.len() - rest.len();
     println!(rt; "read up to byte {at}")?;
     Ok(())
 }
 
 fn main(rt: HostRuntime) -> anyhow::Result<()> {
-    run(&rt, "sheets.bin", Kind::Sheet)?;
-    run(&rt, "packets.bin", Kind::Packet)
+    run(&rt, "sheets.bin", sheet_text)?;
+    run(&rt, "packets.bin", packet_text)
 }

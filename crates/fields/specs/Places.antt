@@ -1,6 +1,6 @@
 -- The five fields by their places: 0 the source address, 1 the destination address, 2 the source port, 3 the destination port, 4 the protocol.
 -- There are no further places; what is said of one is said of the last.
-use Rattle.std.specs.Prelude.{ℕ, zero, suc, Some, None, Option}
+use Rattle.std.specs.Prelude.{ℕ, zero, suc, List, [], ◌∷◌, Some, None, Option}
 use Rattle.fields.specs.declared.perfield.PerField.{PerField}
 use Rattle.fields.specs.declared.place.Place.{Place}
 use Rattle.fields.specs.declared.place.Place.TheVariants.{SourceAddress, DestinationAddress, SourcePort, DestinationPort, Protocol}
@@ -25,6 +25,10 @@ module _ {X : Type 0} where
   at f (suc (suc zero)) = f.ports.source
   at f (suc (suc (suc zero))) = f.ports.destination
   at f (suc (suc (suc (suc i)))) = f.protocol
+
+  -- what stands at the five places, in their order
+  abbrev pub listed : PerField X → List X
+  listed f = at f 0 ∷ at f 1 ∷ at f 2 ∷ at f 3 ∷ at f 4 ∷ []
 
   -- the same with x at a place
   abbrev pub put : PerField X → ℕ → X → PerField X

@@ -1,5 +1,5 @@
 -- The number of each refusal, and the number that a call is refused with.
-use Rattle.std.specs.Prelude.{ℕ, Bool, cond, List, [], ◌∷◌, Some, None, Ok, Err, Option, Result}
+use Rattle.std.specs.Prelude.{ℕ, Bool, cond, List, [], ◌∷◌, ◌++◌, codes, decimal, Some, None, Ok, Err, Option, Result}
 use Rattle.fields.specs.declared.refusal.Refusal.{Refusal}
 use Rattle.fields.specs.declared.refusal.Refusal.TheVariants.{RuleNumber, Length, BitBeyond, Standing, NotStanding, SubsetLimit, GrowthLimit, Ungrouped, NoRoom, ByteCount, WordKind, WordBits, RuleOrder, RuleCount, SheetEnd, PacketBytes, Version, HeaderLength, TotalLength, Ports, HeaderBlock, Memory}
 
@@ -26,6 +26,10 @@ code TotalLength = 19
 code Ports = 20
 code HeaderBlock = 23
 code Memory = 99
+
+-- how a refusal is printed
+abbrev pub text : Refusal → List ℕ
+text e = codes "refused " ++ decimal (code e)
 
 -- the number that a result is refused with, or none
 abbrev pub refusal : {X : Type 0} → Result X Refusal → Option ℕ

@@ -1,4 +1,5 @@
-// Header values as numbers.
+// Header values as numbers. Not by `Into<u32>`: its ghost member relates a value and a number, and what a pattern means needs a function, and a
+// value for each number.
 ghost use Rattle.std.specs.Prelude.{◌≡◌, refl};
 ghost use Rattle.fields.specs.Numbering.{Numbering, itself};
 

@@ -11,7 +11,7 @@ pub trait FieldKind {
 
     type Value: Copy;
 
-    // The bits of a header value.
+    // The bits of a header value. A constant has no clause: what is proved of it is what the function below answers.
     const WIDTH: u8;
 
     ghost nest: { Nest Self.Pattern Self.Value };

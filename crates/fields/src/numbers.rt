@@ -1,7 +1,7 @@
 // Numbers that are not to be mistaken for one another.
 
 // How many bits at the front of a pattern are fixed.
-#[derive(Clone, Copy, PartialEq, Eq, PartialOrd, Ord, Debug)]
+#[derive(Clone, Copy, PartialEq, Eq, PartialOrd, Ord, Default, Debug)]
 pub struct PrefixLength {
     pub bits: u8,
 }

@@ -16,13 +16,7 @@ impl Place {
     pub fn index(self) -> usize
         ensures { result ≡ index self }
     {
-        match self {
-            Place::SourceAddress => 0,
-            Place::DestinationAddress => 1,
-            Place::SourcePort => 2,
-            Place::DestinationPort => 3,
-            Place::Protocol => 4,
-        }
+        self as usize
     }
 
     // The place after this one.

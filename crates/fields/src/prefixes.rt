@@ -1,10 +1,10 @@
 // Addresses, ports and protocols: one text for all prefixes.
 ghost use Rattle.std.specs.Prelude.{◌≡◌};
-ghost use Rattle.fields.specs.Prefixes.{make};
+ghost use Rattle.fields.specs.Prefixes.{make, matches, within};
 ghost use Rattle.fields.specs.PrefixLaws.{prefix_nest};
 
 use crate::bits::Bits;
-use crate::checks;
+use crate::checks::{first_bits, has_length, is_clean, lowest};
 use crate::kind::FieldKind;
 use crate::numbers::PrefixLength;
 use crate::prefix::Prefix;
@@ -28,16 +28,35 @@ impl<const W: u8, const S: u8> Prefix<W, S> {
         ensures { result ≡ make W S length.bits number }
     {
         let bits = length.bits;
-        if !checks::has_length(W, S, bits) {
+        if !has_length::<W, S>(bits) {
             return Err(Refusal::Length);
         }
-        if !checks::is_clean(W, bits, number) {
+        if !is_clean::<W>(bits, number) {
             return Err(Refusal::BitBeyond);
         }
         Ok(Prefix {
             length: bits,
             number,
         })
+    }
+
+    // Whether a value begins with the bits of the pattern. Of its number the lowest W bits count.
+    #[tactic(auto, unfolding(crate::specs::Prefixes::matches))]
+    fn matches(self, value: u32) -> bool
+        ensures { result ≡ matches W S self.entry value }
+    {
+        let bits = self.length;
+        first_bits::<W>(bits, self.number) == first_bits::<W>(bits, lowest::<W>(value))
+    }
+
+    // Whether the pattern is as long as another and begins with its bits.
+    #[tactic(auto, unfolding(crate::specs::Prefixes::within))]
+    fn lies_within(self, outer: Prefix<W, S>) -> bool
+        ensures { result ≡ within W S self.entry outer.entry }
+    {
+        let bits = outer.length;
+        bits <= self.length
+            && first_bits::<W>(bits, self.number) == first_bits::<W>(bits, outer.number)
     }
 }
 
@@ -74,10 +93,10 @@ impl<V: Bits + Copy, const W: u8, const S: u8> FieldKind for Prefixes<V, W, S> {
     }
 
     fn matches(p: Prefix<W, S>, v: V) -> bool {
-        checks::meets(W, p.length, p.number, v.to_number())
+        p.matches(v.to_number())
     }
 
     fn within(a: Prefix<W, S>, b: Prefix<W, S>) -> bool {
-        checks::lies_within(W, a.length, a.number, b.length, b.number)
+        a.lies_within(b)
     }
 }

@@ -1,82 +1,81 @@
 // Why a call is refused.
-ghost use Rattle.std.specs.Prelude.{◌≡◌};
-ghost use Rattle.fields.specs.Refusals.{code};
+ghost use Rattle.std.specs.Prelude.{◌≡◌, Some};
+ghost use Rattle.fields.specs.Refusals.{code, text};
+ghost use Rattle.fields.specs.declared.refusal.Refusal.TheVariants.{Memory};
+
+use std::alloc::AllocError;
+use std::fmt;
 
 #[derive(Clone, Copy, PartialEq, Eq, Debug)]
 pub enum Refusal {
     // A rule's number is above 255.
-    RuleNumber,
+    RuleNumber = 1,
     // A pattern's length is one that its kind lacks.
-    Length,
+    Length = 2,
     // A bit is set beyond a pattern's length, or above its width.
-    BitBeyond,
+    BitBeyond = 3,
     // The rule's number stands already.
-    Standing,
+    Standing = 4,
     // The rule's number does not stand.
-    NotStanding,
+    NotStanding = 5,
     // The subset limit is 0 or above 32.
-    SubsetLimit,
+    SubsetLimit = 6,
     // The growth limit is 0 or above 64.
-    GrowthLimit,
+    GrowthLimit = 7,
     // The engine is not grouped.
-    Ungrouped,
+    Ungrouped = 8,
     // What is to be written does not fit the places of the output.
-    NoRoom,
+    NoRoom = 9,
     // The bytes of a sheet are none, or not whole words.
-    ByteCount,
+    ByteCount = 10,
     // A word is of a kind that is not due.
-    WordKind,
+    WordKind = 11,
     // A bit of a word that has to be 0 is set, or its side is the wrong one.
-    WordBits,
+    WordBits = 12,
     // A rule's number is not above the one before it.
-    RuleOrder,
+    RuleOrder = 13,
     // The end word counts other than the rules before it.
-    RuleCount,
+    RuleCount = 14,
     // The words run out, or go on after the end word.
-    SheetEnd,
+    SheetEnd = 15,
     // A packet has under 20 bytes.
-    PacketBytes,
+    PacketBytes = 16,
     // A packet's version is not 4.
-    Version,
+    Version = 17,
     // A packet's header length is under 5 words.
-    HeaderLength,
+    HeaderLength = 18,
     // A packet's total length is below its header or above its bytes.
-    TotalLength,
+    TotalLength = 19,
     // A first fragment of TCP or UDP ends before its ports do.
-    Ports,
+    Ports = 20,
     // A header block is no whole number of headers, or has a last byte that is not 0.
-    HeaderBlock,
+    HeaderBlock = 23,
     // Memory could not be had.
-    Memory,
+    Memory = 99,
 }
 
 impl Refusal {
     pub fn number(self) -> u8
         ensures { result ≡ code self }
     {
-        match self {
-            Refusal::RuleNumber => 1,
-            Refusal::Length => 2,
-            Refusal::BitBeyond => 3,
-            Refusal::Standing => 4,
-            Refusal::NotStanding => 5,
-            Refusal::SubsetLimit => 6,
-            Refusal::GrowthLimit => 7,
-            Refusal::Ungrouped => 8,
-            Refusal::NoRoom => 9,
-            Refusal::ByteCount => 10,
-            Refusal::WordKind => 11,
-            Refusal::WordBits => 12,
-            Refusal::RuleOrder => 13,
-            Refusal::RuleCount => 14,
-            Refusal::SheetEnd => 15,
-            Refusal::PacketBytes => 16,
-            Refusal::Version => 17,
-            Refusal::HeaderLength => 18,
-            Refusal::TotalLength => 19,
-            Refusal::Ports => 20,
-            Refusal::HeaderBlock => 23,
-            Refusal::Memory => 99,
-        }
+        self as u8
+    }
+}
+
+// What is refused for want of memory.
+impl From<AllocError> for Refusal {
+    ghost from_gives = { λ _ e. e ≡ Memory };
+
+    fn from(_: AllocError) -> Refusal {
+        Refusal::Memory
+    }
+}
+
+impl fmt::Display for Refusal {
+    ghost output = { λ e. Some (text e) };
+
+    fn fmt<W: fmt::Write>(&self, f: &mut fmt::Formatter<W>) -> fmt::Result {
+        let number = self.number();
+        write!(f, "refused {number}")
     }
 }

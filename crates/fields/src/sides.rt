@@ -1,5 +1,5 @@
 // One for each side of a packet's way.
-#[derive(Clone, Copy, PartialEq, Eq, Debug)]
+#[derive(Clone, Copy, PartialEq, Eq, Default, Debug)]
 pub struct Sides<T> {
     pub source: T,
     pub destination: T,

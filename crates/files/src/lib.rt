@@ -16,17 +16,11 @@ pub fn file_bytes(rt: &HostRuntime, path: &str) -> io::Result<Vec<u8>>
     ensures { IfOk result (λ v. vec_len v ≤ 65537) }
 {
     let mut bytes = Vec::new(rt.alloc());
-    match File::open(rt, path) {
-        Ok(file) => {
-            let mut part = file.take(ENOUGH as u64);
-            part.read_to_end(&mut bytes)?;
-        }
-        Err(e) => {
-            if e.kind() != ErrorKind::NotFound {
-                return Err(e);
-            }
-        }
-    }
+    let file = match File::open(rt, path) {
+        Err(e) if e.kind() == ErrorKind::NotFound => return Ok(bytes),
+        opened => opened?,
+    };
+    file.take(ENOUGH as u64).read_to_end(&mut bytes)?;
     bytes.truncate(ENOUGH);
     Ok(bytes)
 }
@@ -35,9 +29,6 @@ pub fn file_bytes(rt: &HostRuntime, path: &str) -> io::Result<Vec<u8>>
 pub fn print_text(rt: &HostRuntime, text: Result<String, Refusal>) -> io::Result<()> {
     match text {
         Ok(text) => rt.print(text.as_str()),
-        Err(refusal) => {
-            let number = refusal.number();
-            println!(rt; "refused {number}")
-        }
+        Err(refusal) => println!(rt; "{refusal}"),
     }
 }

@@ -1,45 +1,30 @@
 -- Patterns that are held one after another, each once.
-use Rattle.std.proofs.Common.{◌≡◌, ℕ, suc, ◌<◌, Bool, true, false, cond, not, ◌||◌, ◌⊎◌, List, [], ◌∷◌, ◌++◌, length, get_or, is_some, Some, None, fold, filter, Option, sym, refl, ap, ◌∙◌, subst, subst₂, inl, inr, arith}
+use Rattle.std.proofs.Common.{◌≡◌, ℕ, ◌<◌, Bool, true, false, cond, not, ◌||◌, ltb, ◌+◌, ◌⊎◌, List, [], ◌∷◌, ◌++◌, length, is_some, Some, None, fold, filter, Option, sym, refl, ap, ◌∙◌, subst, subst₂, inl, inr, arith}
 use mathlib.Core.Bool.{false≢true}
 use Rattle.std.proofs.ByRecursion.{All-get_or}
 use Rattle.std.proofs.lemmas.List.{append-nil, append_assoc, length_push, get_or_append_left, get_or_push}
 use Rattle.std.proofs.lemmas.Bool.{and_from, not-false, both_ways, cases_lt}
-use Rattle.std.specs.Option.{option_map}
-use Rattle.std.specs.List.{AllByRecursion}
+use Rattle.std.proofs.lemmas.Bool.Decides.{nat_tests}
+use Rattle.std.specs.List.{position, position_or_len}
 use Rattle.fields.specs.Lists.{any, once}
 use Rattle.fields.specs.Nest.{Nest}
 use Rattle.levels.specs.Levels.{same, marked}
 use Rattle.levels.proofs.Counts.{any_same, once_push}
 use Rattle.levels.proofs.Few.{same_is, same_from}
-use Rattle.finders.specs.Finding.{place, known}
+use Rattle.finders.specs.Finding.{known}
 use Rattle.finders.specs.Labels.{pattern_at, Distinct}
 use Rattle.finders.proofs.Labels.{iff}
-
-module _ {X : Type 0} (q : X → Bool) (d : X) where
-  -- what stands at a place that was found passes, and where none was found nothing does
-  abbrev Placed : List X → Option ℕ → Type 0
-  Placed xs None = AllByRecursion (λ x. q x ≡ false) xs
-  Placed xs (Some k) = (k < length xs) × (q (get_or xs k d) ≡ true)
-
-  placed : (xs : List X) → Placed xs (place q xs)
-  placed [] = tt
-  placed (x ∷ xs) = go (q x) refl (place q xs) (placed xs)
-    where
-      go : (b : Bool) → q x ≡ b → (o : Option ℕ) → Placed xs o → Placed (x ∷ xs) (cond b (Some 0) (option_map suc o))
-      go true e o h = (omega arith, e)
-      go false e None h = (e, h)
-      go false e (Some k) h = (omega (arith, h.0), h.1)
+use Rattle.finders.proofs.Placed.{Placed, placed}
 
 module _ {X : Type 0} (t : X → Bool) where
   -- a place is found exactly if one passes
-  found_any : (xs : List X) → is_some (place t xs) ≡ any t xs
+  found_any : (xs : List X) → is_some (position t xs) ≡ any t xs
   found_any [] = refl
-  found_any (x ∷ xs) = go (t x) (place t xs) (found_any xs)
+  found_any (x ∷ xs) = go (t x) (found_any xs)
     where
-      go : (b : Bool) (o : Option ℕ) → is_some o ≡ any t xs → is_some (cond b (Some 0) (option_map suc o)) ≡ (b || any t xs)
-      go true o h = refl
-      go false None h = h
-      go false (Some k) h = h
+      go : (b : Bool) → is_some (position t xs) ≡ any t xs → is_some (cond (ltb (cond (not b) (1 + position_or_len t xs) 0) (length (x ∷ xs))) (Some (cond (not b) (1 + position_or_len t xs) 0)) None) ≡ (b || any t xs)
+      go true h = grind (arith, nat_tests)
+      go false h = grind (arith, nat_tests)
 
   -- what is left out does not pass
   any_left : (q : X → Bool) → ((x : X) → q x ≡ false → t x ≡ false) → (xs : List X) → any t (filter q xs) ≡ any t xs

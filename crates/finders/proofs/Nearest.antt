@@ -1,12 +1,14 @@
 -- The nearest of the patterns that pass a test, where those that pass nest.
-use Rattle.std.proofs.Common.{◌≡◌, ℕ, zero, suc, ◌<◌, Bool, true, false, not, ◌&&◌, ◌||◌, List, [], ◌∷◌, length, get_or, Some, None, Option, sym, refl, ap, ◌∙◌, ⊎_elim, arith}
-use Rattle.std.proofs.lemmas.Bool.{and_from, and_left, and_right, or_left, or_right, or_from, not_from_true, not_from_false, cases_Bool}
-use Rattle.std.specs.List.{slice_get}
+use Rattle.std.proofs.Common.{◌≡◌, ℕ, zero, suc, ◌+◌, ◌<◌, Bool, true, false, not, ◌&&◌, ◌||◌, ◌⊎◌, List, [], ◌∷◌, length, get_or, Some, None, Option, sym, refl, ap, ◌∙◌, subst, inl, inr, ⊎_elim, add-one, below_more, arith}
+use Rattle.std.proofs.lemmas.Bool.{and_from, and_parts, and_left, and_right, or_left, or_right, or_from, not-true, not_from_true, not_from_false, both_ways, cases_Bool, cond_both, true_from_ne_false, false_from_ne_true}
+use Rattle.std.specs.List.{position, slice_get}
 use Rattle.fields.specs.Lists.{all}
 use Rattle.fields.specs.Nest.{Nest}
 use Rattle.levels.specs.Levels.{around}
-use Rattle.finders.specs.Finding.{place, parent_of, parent_label}
-use Rattle.finders.proofs.Placed.{place_none, place_at}
+use Rattle.levels.proofs.Nearest.{chain}
+use Rattle.finders.specs.Finding.{parent_of, parent_label}
+use Rattle.finders.specs.Nearer.{nearer}
+use Rattle.finders.proofs.Placed.{position_none, position_at}
 
 module _ {X : Type 0} (t : X → Bool) (d : X) where
   -- every element passes
@@ -38,13 +40,13 @@ module _ {P V : Type 0} (N : Nest P V) (held : List P) (t : P → Bool) where
   innermost p = t p && all (λ q. not (t q) || N.within p q) held
 
   -- of all patterns, that is the first which lies within all that pass
-  pub nearest_all : (n : ℕ) (o : Option ℕ) → length held ≡ n → Nearest n o → o ≡ place innermost held
-  nearest_all n None e h = sym (place_none innermost N.whole held (λ j l. and_left _ _ (h j (omega arith))))
+  pub nearest_all : (n : ℕ) (o : Option ℕ) → length held ≡ n → Nearest n o → o ≡ position innermost held
+  nearest_all n None e h = sym (position_none innermost N.whole held (λ j l. and_left _ _ (h j (omega arith))))
   nearest_all n (Some k) e h =
       let d = N.whole in
       let at = λ (j : ℕ). get_or held j d in
       let far = λ (j : ℕ) (q : P). not (t q) || N.within (at j) q in
-      sym (place_at innermost d held k (omega (arith, h.low))
+      sym (position_at innermost d held k (omega (arith, h.low))
       (and_from _ _ h.passes (all_from (far k) d held (λ j l. ⊎_elim
       (λ (y : t (at j) ≡ true). or_right (not (t (at j))) _ (h.inner j (omega arith) y))
       (λ (y : t (at j) ≡ false). or_left _ _ (not_from_false _ y))
@@ -54,6 +56,80 @@ module _ {P V : Type 0} (N : Nest P V) (held : List P) (t : P → Bool) where
       (λ (y : t (at j) ≡ false). and_left _ _ y)
       (cases_Bool (t (at j)))))
 
+  module _ (chained : (a b : P) → t a ≡ true → t b ≡ true → (N.within a b ≡ true) ⊎ (N.within b a ≡ true)) where
+    abbrev at : ℕ → P
+    at j = get_or held j N.whole
+
+    -- one pattern more, which passes
+    pub nearest_takes : (n : ℕ) (o : Option ℕ) → Nearest n o → t (at n) ≡ true → Nearest (n + 1) (Some (nearer N held o n))
+    nearest_takes n None h e = record {
+      low = omega arith;
+      passes = e;
+      inner = below_more (λ j. t (at j) ≡ true → N.within (at n) (at j) ≡ true) n (λ j l p. absurd (both_ways _ (h j l) p)) (λ _. N.reflexive (at n));
+      first = λ j l p. absurd (both_ways _ (h j l) p);
+    }
+    nearest_takes n (Some k) h e = cond_both (around N.within (at n) (at k)) n k (Near (n + 1))
+        (λ a.
+        let b = and_parts (N.within (at n) (at k)) _ a in
+        record {
+          low = omega arith;
+          passes = e;
+          inner = below_more (λ j. t (at j) ≡ true → N.within (at n) (at j) ≡ true) n (λ j l p. N.transitive _ _ _ b.0 (h.inner j l p)) (λ _. N.reflexive (at n));
+          first = λ j l p. false_from_ne_true _ (λ w. both_ways _ (not-true _ b.1) (N.transitive _ _ _ (h.inner j l p) w));
+        })
+        (λ a.
+        let w : N.within (at k) (at n) ≡ true = ⊎_elim (λ w. w) (λ v. true_from_ne_false _ (λ w. both_ways _ a (and_from _ _ v (not_from_false _ w)))) (chained (at k) (at n) h.passes e) in
+        record {
+          low = omega (arith, h.low);
+          passes = h.passes;
+          inner = below_more (λ j. t (at j) ≡ true → N.within (at k) (at j) ≡ true) n h.inner (λ _. w);
+          first = h.first;
+        })
+
+    -- and one that does not
+    pub nearest_passes : (n : ℕ) (o : Option ℕ) → Nearest n o → t (at n) ≡ false → Nearest (n + 1) o
+    nearest_passes n None h e = below_more (λ j. t (at j) ≡ false) n h e
+    nearest_passes n (Some k) h e = record {
+      low = omega (arith, h.low);
+      passes = h.passes;
+      inner = below_more (λ j. t (at j) ≡ true → N.within (at k) (at j) ≡ true) n h.inner (λ p. absurd (both_ways _ e p));
+      first = h.first;
+    }
+
+    -- of patterns that pass and nest one is the nearest, and it is what the definitions find
+    some_nearest : (n : ℕ) → (o : Option ℕ) × Nearest n o
+    some_nearest zero = (None, (λ j l. absurd (omega arith)))
+    some_nearest (suc n) =
+        let h = some_nearest n in
+        rw (← add-one n) (elim (cases_Bool (t (at n))) [ inl e ↦ (Some (nearer N held h.0 n), nearest_takes n h.0 h.1 e) | inr e ↦ (h.0, nearest_passes n h.0 h.1 e) ])
+
+    pub nearest_held : Nearest (length held) (position innermost held)
+    nearest_held =
+        let h = some_nearest (length held) in
+        subst (Nearest (length held)) (nearest_all (length held) h.0 refl h.1) h.1
+
+module _ {P V : Type 0} (N : Nest P V) (held : List P) (n : ℕ) (o : Option ℕ) where
+  -- patterns that match v nest
+  module _ (v : V) where
+    pub matching_takes : Nearest N held (λ q. N.matches q v) n o → N.matches (get_or held n N.whole) v ≡ true → Nearest N held (λ q. N.matches q v) (n + 1) (Some (nearer N held o n))
+    matching_takes h e = nearest_takes N held (λ q. N.matches q v) (λ a b. N.nested a b v) n o h e
+
+    pub matching_passes : Nearest N held (λ q. N.matches q v) n o → N.matches (get_or held n N.whole) v ≡ false → Nearest N held (λ q. N.matches q v) (n + 1) o
+    matching_passes h e = nearest_passes N held (λ q. N.matches q v) (λ a b. N.nested a b v) n o h e
+
+  -- patterns around p do
+  module _ (p : P) where
+    pub around_takes : Nearest N held (around N.within p) n o → around N.within p (get_or held n N.whole) ≡ true → Nearest N held (around N.within p) (n + 1) (Some (nearer N held o n))
+    around_takes h e = nearest_takes N held (around N.within p) (chain N p) n o h e
+
+    pub around_passes : Nearest N held (around N.within p) n o → around N.within p (get_or held n N.whole) ≡ false → Nearest N held (around N.within p) (n + 1) o
+    around_passes h e = nearest_passes N held (around N.within p) (chain N p) n o h e
+
 -- the nearest around the pattern of a label
 pub parent_is : {P V : Type 0} (N : Nest P V) (held : List P) (l : ℕ) (p : P) (n : ℕ) (o : Option ℕ) → Some p ≡ slice_get held l → length held ≡ n → Nearest N held (around N.within p) n o → o ≡ parent_label N held l
 parent_is N held l p n o e m h = nearest_all N held (around N.within p) n o m h ∙ ap (parent_of N held) e
+
+-- what the loops of the scan keep, and what they find
+pub ruleset best_steps = (matching_takes, matching_passes, nearest_all)
+
+pub ruleset parent_steps = (around_takes, around_passes, parent_is)

@@ -1,31 +1,33 @@
--- Where the first element that passes stands, and what stands at a place.
-use Rattle.std.proofs.Common.{◌≡◌, ℕ, zero, suc, ◌<◌, Bool, true, false, cond, List, [], ◌∷◌, length, get_or, Some, None, Option, sym, refl, ap, ◌∙◌, arith, Bor}
-use Rattle.std.proofs.lemmas.List.{get_or_read}
-use Rattle.std.proofs.lemmas.Option.{slice_get-get_or, slice_get_past}
-use Rattle.std.specs.Option.{option_map}
-use Rattle.std.specs.Slice.{IsGetResult}
-use Rattle.std.specs.List.{slice_get}
-use Rattle.finders.specs.Finding.{place}
+-- Where the first element that passes stands.
+use Rattle.std.proofs.Common.{◌≡◌, ℕ, ◌<◌, Bool, true, false, cond, ltb, List, length, get_or, Some, None, Option, ap, ◌∙◌, arith}
+use Rattle.std.proofs.ByRecursion.{All-from_get_or}
+use Rattle.std.proofs.lemmas.Bool.{ltb-true, ltb-false, lt-ltb, le-ltb, cond-true, cond-false, cond_both}
+use Rattle.std.proofs.lemmas.List.Sums.{position_or_len_is, fails_before_first, passes_at_first}
+use Rattle.std.specs.List.{AllByRecursion, position, position_or_len}
 
-module _ {X : Type 0} (q : X → Bool) (d : X) where
+module _ {X : Type 0} (q : X → Bool) (d : X) (xs : List X) where
+  abbrev at_place : ℕ → Option ℕ
+  at_place k = cond (ltb k (length xs)) (Some k) None
+
   -- nothing passes
-  pub place_none : (xs : List X) → ((j : ℕ) → j < length xs → q (get_or xs j d) ≡ false) → place q xs ≡ None
-  place_none [] h = refl
-  place_none (x ∷ xs) h =
-      ap (λ b. cond b (Some 0) (option_map suc (place q xs))) (h 0 (omega arith)) ∙ ap (option_map suc) (place_none xs (λ j l. h (suc j) (omega arith)))
+  pub position_none : ((j : ℕ) → j < length xs → q (get_or xs j d) ≡ false) → position q xs ≡ None
+  position_none h =
+      ap at_place (position_or_len_is q xs (length xs) d (omega arith) h (λ l. absurd (omega arith)))
+      ∙ cond-false (ltb (length xs) (length xs)) (Some (length xs)) None (le-ltb _ _ (omega arith))
 
   -- what stands at k passes, and nothing before it does
-  pub place_at : (xs : List X) (k : ℕ) → k < length xs → q (get_or xs k d) ≡ true → ((j : ℕ) → j < k → q (get_or xs j d) ≡ false) → place q xs ≡ Some k
-  place_at [] k l t h = absurd (omega arith)
-  place_at (x ∷ xs) zero l t h = ap (λ b. cond b (Some 0) (option_map suc (place q xs))) t
-  place_at (x ∷ xs) (suc k) l t h =
-      ap (λ b. cond b (Some 0) (option_map suc (place q xs))) (h 0 (omega arith)) ∙ ap (option_map suc) (place_at xs k (omega arith) t (λ j m. h (suc j) (omega arith)))
+  pub position_at : (k : ℕ) → k < length xs → q (get_or xs k d) ≡ true → ((j : ℕ) → j < k → q (get_or xs j d) ≡ false) → position q xs ≡ Some k
+  position_at k l t h =
+      ap at_place (position_or_len_is q xs k d (omega arith) h (λ _. t)) ∙ cond-true (ltb k (length xs)) (Some k) None (lt-ltb _ _ l)
 
-  -- the same where x was read at k
-  pub place_read : (xs : List X) (k : ℕ) (x : X) → k < length xs → x ≡ get_or xs k x → true ≡ q x → ((j : ℕ) → j < k → q (get_or xs j d) ≡ false) → place q xs ≡ Some k
-  place_read xs k x l is t h = place_at xs k l (sym (t ∙ ap q (get_or_read xs k x l is d))) h
+  -- what stands at a place that was found passes, and where none was found nothing does
+  abbrev pub Placed : Option ℕ → Type 0
+  Placed None = AllByRecursion (λ x. q x ≡ false) xs
+  Placed (Some k) = (k < length xs) × (q (get_or xs k d) ≡ true)
 
--- what `get` lends is what stands there
-pub nth_item : {X : Type 0} (xs : List X) (i : ℕ) (r : Option (Bor X)) → IsGetResult xs i i r → option_map (λ x. x.now) r ≡ slice_get xs i
-nth_item xs i (Some x) h = ap Some (h.3.1 x.now) ∙ sym (slice_get-get_or xs i x.now h.3.0)
-nth_item xs i None h = sym (slice_get_past xs i h.3)
+  pub placed : Placed (position q xs)
+  placed =
+      let k = position_or_len q xs in
+      cond_both (ltb k (length xs)) (Some k) None Placed
+      (λ e. let l = ltb-true k (length xs) e in (l, passes_at_first q xs d l))
+      (λ e. All-from_get_or _ xs d (λ j l. fails_before_first q xs j d (omega (arith, ltb-false k (length xs) e))))

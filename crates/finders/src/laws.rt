@@ -5,22 +5,18 @@ ghost use Rattle.finders.specs.Chains.{ChainsTell};
 use fields::kind::FieldKind;
 
 // What lies around a label is itself and what lies around its parent.
-pub fn parents_tell<K: FieldKind>() -> u8
+#[tactic(auto, using(crate::proofs::Labels::parents_tell_lem))]
+pub fn parents_tell<K: FieldKind>()
     ensures { ParentsTell K.FieldKind.nest }
-{
-    0
-}
+{}
 
 // What matches is what lies around the best.
-pub fn best_tells<K: FieldKind>() -> u8
+#[tactic(auto, using(crate::proofs::Labels::best_tells_lem))]
+pub fn best_tells<K: FieldKind>()
     ensures { BestTells K.FieldKind.nest }
-{
-    0
-}
+{}
 
 // The way up from a label by its parents has all that lies around it, the nearest first.
-pub fn chains_tell<K: FieldKind>() -> u8
+pub fn chains_tell<K: FieldKind>()
     ensures { ChainsTell K.FieldKind.nest }
-{
-    0
-}
+{}

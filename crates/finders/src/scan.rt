@@ -1,6 +1,6 @@
 // A finder that looks at every pattern in turn, for every kind.
 ghost use Rattle.std.specs.Prelude.{◌≡◌, ◌<◌, ◌≤◌, [], IfSome, IfOk, vec_len, vec_capacity};
-ghost use Rattle.finders.specs.Finding.{label_place, known as known_label};
+ghost use Rattle.finders.specs.Finding.{known as known_place};
 ghost use Rattle.finders.specs.Nearer.{nearer as nearer_place};
 
 use crate::finder::Finder;
@@ -11,6 +11,16 @@ use std::alloc::{AllocError, Global};
 
 // How many patterns a scan can hold: the whole pattern, and one for each of 256 rules.
 const ROOM: usize = 257;
+
+// The label of a place.
+fn label_at(place: usize) -> Label
+    requires { place < 257 }
+    ensures { result.place ≡ place }
+{
+    Label {
+        place: place as u16,
+    }
+}
 
 #[derive(Drop)]
 pub struct Scan<K: FieldKind> {
@@ -28,34 +38,22 @@ impl<K: FieldKind> Scan<K> {
         Ok(Scan { patterns })
     }
 
-    // The label of a pattern that is held.
-    fn known(&self, p: K::Pattern) -> Option<Label>
-        ensures { label_place result ≡ known_label K.FieldKind.nest self.now.patterns.items p }
+    // The place of a pattern that is held.
+    fn known(&self, p: K::Pattern) -> Option<usize>
+        ensures { result ≡ known_place K.FieldKind.nest self.now.patterns.items p }
     {
-        for i in 0..self.patterns.len() {
-            if same::<K>(p, self.patterns[i]) {
-                return Some(Label { place: i as u16 });
-            }
-        }
-        None
+        self.patterns.iter().position(|q| same::<K>(p, *q))
     }
 
-    // The label of the pattern at i where nothing was found yet or it lies strictly within what was found, else what was found.
-    fn nearer(&self, found: Option<Label>, i: usize) -> Label
+    // The place i where nothing was found yet or its pattern lies strictly within that of what was found, else what was found.
+    fn nearer(&self, found: Option<usize>, i: usize) -> usize
         requires here { i < vec_len self.now.patterns }
-        requires found { IfSome found (λ b. b.place < vec_len self.now.patterns) }
-        ensures { result.place ≡ nearer_place K.FieldKind.nest self.now.patterns.items (label_place found) i }
+        requires found { IfSome found (λ b. b < vec_len self.now.patterns) }
+        ensures { result ≡ nearer_place K.FieldKind.nest self.now.patterns.items found i }
     {
-        let place = i as u16;
         match found {
-            None => Label { place },
-            Some(b) => {
-                if around::<K>(self.patterns[i], self.patterns[b.place as usize]) {
-                    Label { place }
-                } else {
-                    b
-                }
-            }
+            Some(b) if !around::<K>(self.patterns[i], self.patterns[b]) => b,
+            _ => i,
         }
     }
 }
@@ -78,38 +76,38 @@ impl<K: FieldKind> Finder for Scan<K> {
     }
 
     fn take(&mut self, p: K::Pattern) -> Option<Label> {
-        if let Some(label) = self.known(p) {
-            return Some(label);
+        if let Some(place) = self.known(p) {
+            return Some(label_at(place));
         }
         let count = self.patterns.len();
         if count >= ROOM {
             return None;
         }
         self.patterns.push_reserved(p);
-        Some(Label {
-            place: count as u16,
-        })
+        Some(label_at(count))
     }
 
+    #[tactic(auto, using(crate::proofs::Nearest::best_steps))]
     fn best(&self, v: K::Value) -> Option<Label> {
-        let mut found: Option<Label> = None;
-        for i in 0..self.patterns.len() {
-            if K::matches(self.patterns[i], v) {
+        let mut found = None;
+        for (i, p) in self.patterns.iter().enumerate() {
+            if K::matches(*p, v) {
                 found = Some(self.nearer(found, i));
             }
         }
-        found
+        found.map(label_at)
     }
 
+    #[tactic(auto, using(crate::proofs::Nearest::parent_steps))]
     fn parent(&self, label: Label) -> Option<Label> {
         let p = self.pattern(label)?;
-        let mut found: Option<Label> = None;
-        for i in 0..self.patterns.len() {
-            if around::<K>(p, self.patterns[i]) {
+        let mut found = None;
+        for (i, q) in self.patterns.iter().enumerate() {
+            if around::<K>(p, *q) {
                 found = Some(self.nearer(found, i));
             }
         }
-        found
+        found.map(label_at)
     }
 
     fn pattern(&self, label: Label) -> Option<K::Pattern> {

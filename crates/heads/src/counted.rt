@@ -1,7 +1,7 @@
 // A tuple, and how many rules have it.
 use crate::tuple::Tuple;
 
-#[derive(Clone, Copy)]
+#[derive(Clone, Copy, PartialEq, Eq, Debug)]
 pub struct Counted {
     pub tuple: Tuple,
     pub rules: u16,

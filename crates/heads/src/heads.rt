@@ -14,14 +14,10 @@ pub fn count_tuple(counted: &mut Vec<Counted>, tuple: Tuple)
     ensures longer { vec_len counted.new ≤ vec_len counted.old + 1 }
     ensures capacity { vec_capacity counted.new ≡ vec_capacity counted.old }
 {
-    for i in 0..counted.len() {
-        let found = counted[i];
-        if tuple.is(found.tuple) {
-            counted[i].rules = found.rules.saturating_add(1);
-            return;
-        }
+    match counted.iter().position(|c| c.tuple == tuple) {
+        Some(i) => counted[i].rules = counted[i].rules.saturating_add(1),
+        None => counted.push_reserved(Counted { tuple, rules: 1 }),
     }
-    counted.push_reserved(Counted { tuple, rules: 1 });
 }
 
 // The place of the tuple that most rules have, of several the first.
@@ -29,6 +25,7 @@ fn most(counted: &[Counted]) -> usize
     requires { 0 < length counted.now }
     ensures { Picked (λ c. c.rules) counted.now result }
 {
+    // By index: what is asked for is the place of the first best, and `max_by_key` tells no place, and takes the last.
     let mut best = 0;
     for i in 1..counted.len() {
         if counted[i].rules > counted[best].rules {

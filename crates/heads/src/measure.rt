@@ -1,6 +1,6 @@
 // How far tuples are apart.
 ghost use Rattle.std.specs.Prelude.{◌≡◌, ◌+◌, ◌-◌, ◌<◌, map, length};
-ghost use Rattle.groups.specs.Tuples.{distance, equal, nearest_head};
+ghost use Rattle.groups.specs.Tuples.{distance, nearest_head};
 ghost use Rattle.heads.specs.Counts.{levels_of};
 
 use crate::tuple::Tuple;
@@ -27,17 +27,12 @@ impl Tuple {
             + apart(a.protocol, b.protocol)
     }
 
-    pub fn is(self, other: Tuple) -> bool
-        ensures { result ≡ equal (levels_of self) (levels_of other) }
-    {
-        self.distance(other) == 0
-    }
-
     // The place of the nearest head, of several the first; 0 where there are no heads.
     pub fn nearest(self, heads: &[Tuple]) -> usize
         ensures place { result ≡ nearest_head (levels_of self) (map levels_of heads.now) }
         ensures within { 0 < length heads.now → result < length heads.now }
     {
+        // By index: what is asked for is the place of the first best, and an iterator's `min_by_key` tells no place.
         let mut best = 0;
         for i in 1..heads.len() {
             if self.distance(heads[i]) < self.distance(heads[best]) {

@@ -4,7 +4,7 @@ ghost use Rattle.heads.specs.Levels.{Low};
 use fields::numbers::Level;
 use fields::perfield::PerField;
 
-#[derive(Clone, Copy)]
+#[derive(Clone, Copy, PartialEq, Eq, Debug)]
 pub struct Tuple {
     pub levels: PerField<Level>,
     ghost low: { Low levels },

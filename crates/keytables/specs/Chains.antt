@@ -1,6 +1,11 @@
 -- Rows that hang in chains, the newest of a chain first. A link is 0, or one more than the place of a row.
 use Rattle.std.specs.Prelude.{◌≡◌, ℕ, zero, suc, ◌-◌, ◌<◌, ◌≤◌, Bool, true, cond, Some, None, Option}
 
+-- an optional place as a link
+abbrev pub link_of : Option ℕ → ℕ
+link_of None = 0
+link_of (Some i) = suc i
+
 -- the last of the first n rows that passes the test
 unfoldable pub latest : (ℕ → Bool) → ℕ → Option ℕ
 latest test zero = None

@@ -1,8 +1,14 @@
 -- Keys, and what is stored under them.
-use Rattle.std.specs.Prelude.{ℕ, suc, Bool, cond, ◌&&◌, ◌||◌, is_some, Some, Option, ◌==◌, nat_lt}
+use Rattle.std.specs.Prelude.{ℕ, suc, Bool, cond, ◌&&◌, ◌||◌, List, [], ◌∷◌, is_some, Some, Option, ◌==◌, nat_lt}
 use Rattle.keytables.specs.declared.key.Key.{Key}
 use Rattle.fields.specs.declared.numbers.Label.{Label}
 use Rattle.fields.specs.declared.perfield.PerField.{PerField}
+
+-- the subset of a key, and the place of its label in each field
+unfoldable pub numbers_of : Key → List ℕ
+numbers_of k =
+    let l = k.labels in
+    k.subset ∷ l.addresses.source.place ∷ l.addresses.destination.place ∷ l.ports.source.place ∷ l.ports.destination.place ∷ l.protocol.place ∷ []
 
 -- two keys are the same: one subset, and the same label in every field
 abbrev pub same_labels : PerField Label → PerField Label → Bool

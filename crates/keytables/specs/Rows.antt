@@ -1,8 +1,8 @@
 -- Rows of keys and entries that hang in buckets.
-use Rattle.std.specs.Prelude.{ℕ, ◌+◌, ◌*◌, ◌/◌, ◌%◌, ◌^◌, ◌≤◌, Bool, List, length, Option, slice_index, slice_index_or}
+use Rattle.std.specs.Prelude.{ℕ, ◌+◌, ◌*◌, ◌/◌, ◌%◌, ◌^◌, ◌≤◌, Bool, List, length, fold, None, Option, slice_index_or}
 use Rattle.std.specs.Option.{option_map}
-use Rattle.keytables.specs.Keys.{same_key}
-use Rattle.keytables.specs.Chains.{latest, Chained}
+use Rattle.keytables.specs.Keys.{numbers_of, same_key}
+use Rattle.keytables.specs.Chains.{link_of, latest, Chained}
 use Rattle.keytables.specs.declared.buckets.Row.{Row}
 use Rattle.keytables.specs.declared.key.Key.{Key}
 
@@ -11,10 +11,7 @@ unfoldable pub mixed : ℕ → ℕ → ℕ
 mixed h x = (((h + x) % 2 ^ 64) * 0x9E37_79B9_7F4A_7C15) % 2 ^ 64
 
 unfoldable pub bucket : Key → ℕ
-bucket k =
-    let s = k.labels in
-    mixed (mixed (mixed (mixed (mixed (mixed 0 k.subset) s.addresses.source.place) s.addresses.destination.place)
-    s.ports.source.place) s.ports.destination.place) s.protocol.place / 2 ^ 52
+bucket k = fold mixed 0 (numbers_of k) / 2 ^ 52
 
 abbrev pub no_key : Key
 no_key = record {
@@ -27,7 +24,7 @@ no_key = record {
 }
 
 abbrev pub no_row : Row
-no_row = record { key = no_key; entry = 0; link = 0 }
+no_row = record { key = no_key; entry = 0; link = None }
 
 -- a row with another entry
 abbrev pub with_entry : Row → ℕ → Row
@@ -47,6 +44,6 @@ stored rows k = option_map (λ i. (slice_index_or rows i no_row).entry) (row_of 
 abbrev pub chain_of : List Row → ℕ → ℕ
 chain_of rows i = bucket (slice_index_or rows i no_row).key
 
-pub record Sound (heads : List ℕ) (rows : List Row) : Type 0 where
+pub record Sound (heads : List (Option ℕ)) (rows : List Row) : Type 0 where
   pub few : length rows ≤ 2048
-  pub chained : Chained (chain_of rows) (λ b. slice_index heads b) (λ i. (slice_index_or rows i no_row).link) (length rows)
+  pub chained : Chained (chain_of rows) (λ b. link_of (slice_index_or heads b None)) (λ i. link_of (slice_index_or rows i no_row).link) (length rows)

@@ -2,7 +2,7 @@
 use Rattle.std.proofs.Common.{◌≡◌, ℕ, ◌+◌, ◌<◌, ◌≤◌, List, [], ◌∷◌, ◌++◌, length, get_or, take, drop, Some, None, Option, sym, refl, ap, ◌∙◌, arith}
 use Rattle.std.proofs.lemmas.List.{at_drop_more, at_drop_all, take_more, take_all}
 use Rattle.std.specs.Option.{option_map, option_flatten}
-use Rattle.keytrees.specs.Nodes.{no_node, child_of, end_of, held, Grown, Kept, Going}
+use Rattle.keytrees.specs.Nodes.{no_node, child_of, end_of, held, Kept, Going}
 use Rattle.keytrees.specs.declared.tree.Node.{Node}
 use Rattle.keytrees.proofs.Children.{child_holds}
 
@@ -13,31 +13,25 @@ end_step nodes p x xs o e = ap (λ (m : Option ℕ). option_flatten (option_map 
 
 pub held_step : (nodes : List Node) (p x : ℕ) (xs : List ℕ) (o : Option ℕ) → child_of nodes p x ≡ o → held nodes p (x ∷ xs) ≡ option_flatten (option_map (λ c. held nodes c xs) o)
 unfolding held
-held_step nodes p x xs None e = ap (λ (m : Option ℕ). option_flatten (option_map (λ n. (get_or nodes n no_node).entry) m)) (end_step nodes p x xs None e)
-held_step nodes p x xs (Some c) e = ap (λ (m : Option ℕ). option_flatten (option_map (λ n. (get_or nodes n no_node).entry) m)) (end_step nodes p x xs (Some c) e)
-
-pub end_here : (nodes : List Node) (p : ℕ) → end_of nodes p [] ≡ Some p
-unfolding end_of
-end_here nodes p = refl
+held_step nodes p x xs None e = rw (end_step nodes p x xs None e) refl
+held_step nodes p x xs (Some c) e = rw (end_step nodes p x xs (Some c) e) refl
 
 pub held_at : (nodes : List Node) (p : ℕ) (xs : List ℕ) (o : Option ℕ) → end_of nodes p xs ≡ o → held nodes p xs ≡ option_flatten (option_map (λ n. (get_or nodes n no_node).entry) o)
 unfolding held
-held_at nodes p xs o e = ap (λ (m : Option ℕ). option_flatten (option_map (λ n. (get_or nodes n no_node).entry) m)) e
+held_at nodes p xs o e = rw e refl
 
 -- a way that ends has its first step
 end_first : (nodes : List Node) (p x : ℕ) (xs : List ℕ) (n : ℕ) → end_of nodes p (x ∷ xs) ≡ Some n → (c : ℕ) × (child_of nodes p x ≡ Some c) × (end_of nodes c xs ≡ Some n)
 end_first nodes p x xs n e = at (child_of nodes p x) refl
   where
     at : (o : Option ℕ) → child_of nodes p x ≡ o → (c : ℕ) × (child_of nodes p x ≡ Some c) × (end_of nodes c xs ≡ Some n)
-    at None s = let d = sym (end_step nodes p x xs None s) ∙ e in let z : ◌≡◌ {A = ℕ} 0 1 = cc in absurd (omega arith)
+    at None s = let d = sym (end_step nodes p x xs None s) ∙ e in cc
     at (Some c) s = (c, s, sym (end_step nodes p x xs (Some c) s) ∙ e)
 
 -- a way and one number more
 pub end_push : (nodes : List Node) (p : ℕ) (xs : List ℕ) (x n c : ℕ) → end_of nodes p xs ≡ Some n → child_of nodes n x ≡ Some c → end_of nodes p (xs ++ x ∷ []) ≡ Some c
 unfolding end_of
-end_push nodes p [] x n c e h =
-    let is : p ≡ n = cc in
-    end_step nodes p x [] (Some c) (ap (λ (m : ℕ). child_of nodes m x) is ∙ h)
+end_push nodes p [] x n c e h = end_step nodes p x [] (Some c) (cc)
 end_push nodes p (y ∷ ys) x n c e h =
     let d = end_first nodes p y ys n e in
     end_step nodes p y (ys ++ x ∷ []) (Some d.0) d.1 ∙ end_push nodes d.0 ys x n c d.2 h
@@ -52,11 +46,9 @@ end_one nodes p q (x ∷ xs) (y ∷ ys) n l a b =
     let c = end_first nodes p x xs n a in
     let d = end_first nodes q y ys n b in
     let r = end_one nodes c.0 d.0 xs ys n (omega arith) c.2 d.2 in
-    let is = r.0 in
-    let same = r.1 in
     let f = child_holds nodes p x c.0 c.1 in
     let g = child_holds nodes q y d.0 d.1 in
-    (cc (f.parent, g.parent), cc (f.number, g.number))
+    grind (arith, r.0, r.1)
 
 -- where every child is kept, so is every end
 pub ends_kept : (nodes more : List Node) → ((p x c : ℕ) → child_of nodes p x ≡ Some c → child_of more p x ≡ Some c) → (p : ℕ) (xs : List ℕ) (n : ℕ) → end_of nodes p xs ≡ Some n → end_of more p xs ≡ Some n
@@ -80,26 +72,24 @@ end_more nodes way i node o e l inv s =
     sym (end_step nodes node (get_or way i 0) (drop (i + 1) way) o (sym s)) ∙ sym (at_drop_more (end_of nodes node) way i 0 l) ∙ inv
 
 pub end_all : (nodes : List Node) (way : List ℕ) (i node : ℕ) (e : Option ℕ) → length way ≤ i → end_of nodes node (drop i way) ≡ e → Some node ≡ e
-end_all nodes way i node e l inv = sym (end_here nodes node) ∙ sym (at_drop_all (end_of nodes node) way i l) ∙ inv
+unfolding end_of
+end_all nodes way i node e l inv = sym (at_drop_all (end_of nodes node) way i l) ∙ inv
 
 pub kept_none : (nodes : List Node) → Kept nodes nodes
 kept_none nodes = record { ends = λ p xs n e. e; entries = λ p xs. refl }
 
-pub kept_more : (nodes more most : List Node) → Kept nodes more → Kept more most → Kept nodes most
-kept_more nodes more most k l = record {
-  ends = λ p xs n e. l.ends p xs n (k.ends p xs n e);
-  entries = λ p xs. l.entries p xs ∙ k.entries p xs;
-}
+pub going_none : (nodes : List Node) (way : List ℕ) → 0 < length nodes → Going nodes nodes way 0 0
+unfolding end_of
+going_none nodes way t = record { end = refl; within = t; kept = kept_none nodes; few = omega arith }
 
-pub going_none : (nodes : List Node) (way : List ℕ) → Grown nodes → Going nodes nodes way 0 0
-going_none nodes way t = record { tree = t; end = end_here nodes 0; within = t.root; kept = kept_none nodes; few = omega arith }
-
-pub going_more : (start nodes more : List Node) (way : List ℕ) (i node child : ℕ) → Going start nodes way i node → i < length way → Grown more → Kept nodes more → length more ≤ length nodes + 1 → child_of more node (get_or way i 0) ≡ Some child → child < length more → Going start more way (i + 1) child
-going_more start nodes more way i node child g l t k few c w = record {
-  tree = t;
-  end = ap (end_of more 0) (take_more way i 0 l) ∙ end_push more 0 (take i way) (get_or way i 0) node child (k.ends 0 (take i way) node g.end) c;
+pub going_more : (start nodes more : List Node) (way : List ℕ) (i node child : ℕ) → Going start nodes way i node → i < length way → Kept nodes more → length more ≤ length nodes + 1 → child_of more node (get_or way i 0) ≡ Some child → child < length more → Going start more way (i + 1) child
+going_more start nodes more way i node child g l k few c w = record {
+  end = rw (take_more way i 0 l) (end_push more 0 (take i way) (get_or way i 0) node child (k.ends 0 (take i way) node g.end) c);
   within = w;
-  kept = kept_more start nodes more g.kept k;
+  kept = record {
+    ends = λ p xs n e. k.ends p xs n (g.kept.ends p xs n e);
+    entries = λ p xs. k.entries p xs ∙ g.kept.entries p xs;
+  };
   few = omega (arith, g.few);
 }
 

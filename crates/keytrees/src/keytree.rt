@@ -1,7 +1,7 @@
-// A key table that is a tree over the subset and then the five labels.
-ghost use Rattle.std.specs.Prelude.{◌≡◌, IfOk, None, nat_le};
+// A key table that is a tree: the way of a key from the root is its numbers.
+ghost use Rattle.std.specs.Prelude.{◌≡◌, ◌+◌, ◌*◌, ◌≤◌, IfOk, length, None};
 ghost use Rattle.keytables.specs.declared.key.Key.{Key};
-ghost use Rattle.keytrees.specs.Nodes.{way_of, stored, Sound};
+ghost use Rattle.keytrees.specs.Nodes.{stored};
 
 use crate::tree::Tree;
 use keytables::key::Key;
@@ -11,32 +11,20 @@ use std::alloc::{AllocError, Global};
 
 const KEYS: u16 = 2048;
 
+// Six nodes at most for each key, and the root.
 #[derive(Drop)]
 pub struct KeyTree {
     tree: Tree,
     count: u16,
     tally: Tally,
-}
-
-// The way of a key from the root.
-fn way(key: Key) -> [u16; 6]
-    ensures { result ≡ way_of key }
-{
-    let labels = key.labels;
-    [
-        key.subset as u16,
-        labels.addresses.source.place,
-        labels.addresses.destination.place,
-        labels.ports.source.place,
-        labels.ports.destination.place,
-        labels.protocol.place,
-    ]
+    ghost few: { count ≤ 2048 },
+    ghost close: { length tree.nodes.items ≤ 6 * count + 1 },
 }
 
 impl KeyTree {
     // An empty table; it takes all memory that it ever uses.
     pub fn new(heap: Global) -> Result<Self, AllocError>
-        ensures { IfOk result (λ t. Sound t.tree.nodes.items t.count × ((q : Key) → stored t.tree.nodes.items q ≡ None) × (t.count ≡ 0) × (t.tally.asked ≡ 0)) }
+        ensures { IfOk result (λ t. ((q : Key) → stored t.tree.nodes.items q ≡ None) × (t.count ≡ 0) × (t.tally.asked ≡ 0)) }
     {
         let tree = Tree::new(heap)?;
         Ok(KeyTree {
@@ -45,16 +33,10 @@ impl KeyTree {
             tally: Tally { asked: 0 },
         })
     }
-
-    fn is_full(&self) -> bool
-        ensures { result ≡ nat_le 2048 self.now.count }
-    {
-        self.count >= KEYS
-    }
 }
 
 impl KeyTable for KeyTree {
-    ghost ready = { λ t. Sound t.tree.nodes.items t.count };
+    ghost ready = { λ _. Unit {0} };
 
     ghost map = { λ t. stored t.tree.nodes.items };
 
@@ -69,13 +51,14 @@ impl KeyTable for KeyTree {
         self.count = 0;
     }
 
+    #[tactic(auto, using(crate::proofs::Stores::stored_set))]
     fn put(&mut self, key: Key, entry: u16) -> Result<(), Full> {
-        let way = way(key);
+        let way = key.numbers();
         if let Some(node) = self.tree.holder(&way) {
             self.tree.set_entry(node, entry);
             return Ok(());
         }
-        if self.is_full() {
+        if self.count >= KEYS {
             return Err(Full);
         }
         let node = self.tree.grow(&way);
@@ -86,7 +69,7 @@ impl KeyTable for KeyTree {
 
     fn find(&mut self, key: Key) -> Option<u16> {
         self.tally.add();
-        self.tree.entry(&way(key))
+        self.tree.entry(&key.numbers())
     }
 
     fn start(&mut self) {

@@ -1,35 +1,30 @@
 // A tree of nodes, each with the number that leads to it from its parent.
-ghost use Rattle.std.specs.Prelude.{◌≡◌, ◌+◌, ◌<◌, ◌≤◌, [], ◌∷◌, ◌++◌, length, get_or, is_some, IfSome, IfOk, Some, vec_capacity, slice_index_or, slice_set};
-ghost use Rattle.keytrees.specs.Nodes.{no_node, bare, with_first, with_entry, child_of, end_of, held, Grown, Kept};
+ghost use Rattle.std.specs.Prelude.{◌≡◌, ◌+◌, ◌<◌, ◌≤◌, [], ◌∷◌, length, is_some, IfSome, IfOk, Some, None, vec_capacity, slice_index_or, slice_set};
+ghost use Rattle.keytrees.specs.Nodes.{no_node, with_entry, child_of, end_of, held, Grown, Kept};
 
 use std::alloc::{AllocError, Global};
 
 // Six nodes for each of 2,048 keys, and the root.
 const NODES: usize = 12289;
 
-// The root stands at place 0, and a link of 0 leads nowhere.
-#[derive(Clone, Copy)]
+// Nodes name one another by their places.
+#[derive(Clone, Copy, Default)]
 struct Node {
-    parent: u16,
+    // None at the root. The calls only write it: what they promise speaks of it.
+    parent: Option<u16>,
     number: u16,
     // The newest child, and the next older child of the same parent.
-    first: u16,
-    next: u16,
+    first: Option<u16>,
+    next: Option<u16>,
     entry: Option<u16>,
 }
 
-const ROOT: Node = Node {
-    parent: 0,
-    number: 0,
-    first: 0,
-    next: 0,
-    entry: None,
-};
-
+// The root stands at place 0. All nodes lie in one vector, since no call may allocate.
 #[derive(Drop)]
 pub struct Tree {
     nodes: Vec<Node>,
     ghost reserved: { 12289 ≤ vec_capacity nodes },
+    ghost grown: { Grown nodes.items },
 }
 
 impl Tree {
@@ -38,7 +33,7 @@ impl Tree {
         ensures { IfOk result (λ t. t.nodes.items ≡ no_node ∷ []) }
     {
         let mut nodes = Vec::with_capacity(heap, NODES)?;
-        nodes.push_reserved(ROOT);
+        nodes.push_reserved(Node::default());
         Ok(Tree { nodes })
     }
 
@@ -46,21 +41,21 @@ impl Tree {
         ensures { self.new.nodes.items ≡ no_node ∷ [] }
     {
         self.nodes.clear();
-        self.nodes.push_reserved(ROOT);
+        self.nodes.push_reserved(Node::default());
     }
 
     // The child of a node for a number.
     fn child(&self, parent: usize, number: u16) -> Option<usize>
-        requires tree { Grown self.now.nodes.items }
-        requires parent { parent < length self.now.nodes.items }
+        requires { parent < length self.now.nodes.items }
         ensures child { result ≡ child_of self.now.nodes.items parent number }
         ensures within { IfSome result (λ c. c < length self.now.nodes.items) }
     {
         let mut link = self.nodes[parent].first;
-        while link > 0 {
-            let node = self.nodes[link as usize];
+        while let Some(place) = link {
+            let place = usize::from(place);
+            let node = &self.nodes[place];
             if node.number == number {
-                return Some(link as usize);
+                return Some(place);
             }
             link = node.next;
         }
@@ -70,29 +65,30 @@ impl Tree {
     // Adds a child to a node.
     fn add(&mut self, parent: usize, number: u16) -> usize
         requires parent { parent < length self.old.nodes.items }
+        requires new { child_of self.old.nodes.items parent number ≡ None }
         requires room { length self.old.nodes.items < 12289 }
-        ensures nodes { self.new.nodes.items ≡ slice_set self.old.nodes.items parent (with_first (slice_index_or self.old.nodes.items parent no_node) (length self.old.nodes.items)) ++ bare parent number (get_or self.old.nodes.items parent no_node).first ∷ [] }
-        ensures place { result ≡ length self.old.nodes.items }
+        ensures child { child_of self.new.nodes.items parent number ≡ Some result }
+        ensures within { result < length self.new.nodes.items }
+        ensures kept { Kept self.old.nodes.items self.new.nodes.items }
+        ensures few { length self.new.nodes.items ≤ length self.old.nodes.items + 1 }
     {
         let place = self.nodes.len();
-        let next = self.nodes[parent].first;
-        self.nodes[parent].first = place as u16;
+        let node = &mut self.nodes[parent];
+        let next = node.first;
+        node.first = Some(place as u16);
         self.nodes.push_reserved(Node {
-            parent: parent as u16,
+            parent: Some(parent as u16),
             number,
-            first: 0,
             next,
-            entry: None,
+            ..Node::default()
         });
         place
     }
 
     // The child of a node for a number, added where there is none.
     fn branch(&mut self, parent: usize, number: u16) -> usize
-        requires tree { Grown self.old.nodes.items }
         requires parent { parent < length self.old.nodes.items }
         requires room { length self.old.nodes.items < 12289 }
-        ensures tree { Grown self.new.nodes.items }
         ensures child { child_of self.new.nodes.items parent number ≡ Some result }
         ensures within { result < length self.new.nodes.items }
         ensures kept { Kept self.old.nodes.items self.new.nodes.items }
@@ -106,7 +102,6 @@ impl Tree {
 
     // The node at the end of a way from the root.
     fn end(&self, way: &[u16]) -> Option<usize>
-        requires { Grown self.now.nodes.items }
         ensures end { result ≡ end_of self.now.nodes.items 0 way.now }
         ensures within { IfSome result (λ n. n < length self.now.nodes.items) }
     {
@@ -118,8 +113,8 @@ impl Tree {
     }
 
     // What is stored at the end of a way.
+    #[tactic(auto, unfolding(crate::specs::Nodes::held))]
     pub fn entry(&self, way: &[u16]) -> Option<u16>
-        requires { Grown self.now.nodes.items }
         ensures { result ≡ held self.now.nodes.items 0 way.now }
     {
         let node = self.end(way)?;
@@ -127,24 +122,18 @@ impl Tree {
     }
 
     // The node at the end of a way where something is stored.
+    #[tactic(auto, unfolding(crate::specs::Nodes::held))]
     pub fn holder(&self, way: &[u16]) -> Option<usize>
-        requires { Grown self.now.nodes.items }
         ensures holds { is_some result ≡ is_some (held self.now.nodes.items 0 way.now) }
         ensures end { IfSome result (λ n. (end_of self.now.nodes.items 0 way.now ≡ Some n) × (n < length self.now.nodes.items)) }
     {
-        let node = self.end(way)?;
-        if self.nodes[node].entry.is_some() {
-            Some(node)
-        } else {
-            None
-        }
+        self.end(way)
+            .filter(|node| self.nodes[*node].entry.is_some())
     }
 
     // The node at the end of a way, with all that lacks on the way added.
     pub fn grow(&mut self, way: &[u16]) -> usize
-        requires tree { Grown self.old.nodes.items }
-        requires room { length self.old.nodes.items + length way.now ≤ 12289 }
-        ensures tree { Grown self.new.nodes.items }
+        requires { length self.old.nodes.items + length way.now ≤ 12289 }
         ensures end { end_of self.new.nodes.items 0 way.now ≡ Some result }
         ensures within { result < length self.new.nodes.items }
         ensures kept { Kept self.old.nodes.items self.new.nodes.items }

@@ -26,10 +26,7 @@ pub fn length_map<const W: u8, const S: u8>(
 ) -> Option<LengthMap>
     ensures { MatchOption result (length held.now ≤ place) (λ m. (place < length held.now) × ((d : Prefix W S) → Maps W S held.now (slice_index_or held.now place d) m.lengths)) }
 {
-    if place >= held.len() {
-        return None;
-    }
-    let p = held[place];
+    let p = *held.get(place)?;
     let mut lengths = 0;
     for q in held {
         let bits = Kind::<W, S>::length(*q).bits;
@@ -44,10 +41,8 @@ pub fn length_map<const W: u8, const S: u8>(
 pub fn level_by_map<const W: u8, const S: u8>(held: &[Prefix<W, S>], place: usize) -> Option<Level>
     ensures { MatchOption result (length held.now ≤ place) (λ l. (place < length held.now) × ((d : Prefix W S) → l.around ≡ level_of (within_prefix W S) (whole_prefix W S) held.now (slice_index_or held.now place d))) }
 {
-    match length_map(held, place) {
-        Some(map) => Some(Level {
-            around: map.lengths.count_ones() as usize,
-        }),
-        None => None,
-    }
+    let map = length_map(held, place)?;
+    Some(Level {
+        around: map.lengths.count_ones() as usize,
+    })
 }

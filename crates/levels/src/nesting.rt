@@ -8,7 +8,7 @@ ghost use Rattle.levels.specs.Told.{told};
 use fields::kind::FieldKind;
 use fields::numbers::Level;
 
-// Whether two patterns are one.
+// Whether two patterns are one. Not by `==`: a kind of field owes how its patterns nest, and no equality of them.
 pub fn same<K: FieldKind>(a: K::Pattern, b: K::Pattern) -> bool
     ensures { result ≡ same_pattern K.FieldKind.nest.within a b }
 {
@@ -22,7 +22,7 @@ pub fn around<K: FieldKind>(p: K::Pattern, q: K::Pattern) -> bool
     K::within(p, q) && !K::within(q, p)
 }
 
-// Whether two patterns are one, by the length and the number that each tells.
+// Whether two patterns are one, by the length and the number that each tells; a kind owes no `==`.
 // These also bound how many patterns there are.
 fn alike<K: FieldKind>(a: K::Pattern, b: K::Pattern) -> bool
     ensures one { result ≡ same_pattern K.FieldKind.nest.within a b }
@@ -38,15 +38,7 @@ fn marked<K: FieldKind>(patterns: &[K::Pattern], q: K::Pattern) -> bool
     ensures found { result ≡ any (λ p. same_pattern K.FieldKind.nest.within p q) (K.FieldKind.nest.whole ∷ patterns.now) }
     ensures few { (told K.FieldKind.nest K.FieldKind.nest.whole ≡ true) × (told K.FieldKind.nest q ≡ true) }
 {
-    if alike::<K>(K::whole(), q) {
-        return true;
-    }
-    for p in patterns {
-        if alike::<K>(*p, q) {
-            return true;
-        }
-    }
-    false
+    alike::<K>(K::whole(), q) || patterns.iter().any(|p| alike::<K>(*p, q))
 }
 
 // The nested level of p in a field whose rules have these patterns; the whole pattern is always marked.

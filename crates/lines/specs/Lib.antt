@@ -1,3 +1,2 @@
 pub mod Lines
-pub mod Pieces
-pub mod Output
+pub mod Cursors

@@ -4,12 +4,8 @@
 use files::{file_bytes, print_text};
 use listing::sheet_text;
 
-fn run(rt: &HostRuntime) -> anyhow::Result<()> {
-    let bytes = file_bytes(rt, "rules.bin")?;
-    print_text(rt, sheet_text(rt.alloc(), bytes.as_slice()))?;
-    Ok(())
-}
-
 fn main(rt: HostRuntime) -> anyhow::Result<()> {
-    run(&rt)
+    let bytes = file_bytes(&rt, "rules.bin")?;
+    print_text(&rt, sheet_text(rt.alloc(), bytes.as_slice()))?;
+    Ok(())
 }

@@ -1,2 +1,2 @@
-pub mod Past
+pub mod Copied
 pub mod Puts

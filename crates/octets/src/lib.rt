@@ -1,32 +1,35 @@
 // Numbers in bytes, the highest byte first.
 #![tactic(auto)]
 
-ghost use Rattle.std.specs.Prelude.{◌≡◌};
+ghost use Rattle.std.specs.Prelude.{◌≡◌, ℕ, ◌+◌, ◌<◌, drop, slice_index};
+ghost use Rattle.std.specs.Int.{w16, w32, from_be_bytes};
 ghost use Rattle.octets.specs.Numbers.{byte, two, four};
+
+use std::array;
 
 // The byte at a place, or 0 past the end.
 pub fn byte_at(bytes: &[u8], place: usize) -> u8
     ensures { result ≡ byte bytes.now place }
 {
-    if place < bytes.len() { bytes[place] } else { 0 }
+    bytes.get(place).copied().unwrap_or(0)
 }
 
-// The number in the two bytes from a place on; what lies past the end counts as 0.
-pub fn number_of_two(bytes: &[u8], place: usize) -> u16
-    ensures { result ≡ two bytes.now place }
+// What there is from a place on.
+fn rest_from(bytes: &[u8], place: usize) -> &[u8]
+    ensures { result.now ≡ drop place bytes.now }
 {
-    if place >= bytes.len() {
-        return 0;
-    }
-    u16::from(byte_at(bytes, place)) * 256 + u16::from(byte_at(bytes, place + 1))
+    bytes.get(place..).unwrap_or(&[])
 }
 
-// The number in the four bytes from a place on; what lies past the end counts as 0.
-pub fn number_of_four(bytes: &[u8], place: usize) -> u32
-    ensures { result ≡ four bytes.now place }
+// The bytes from a place on; what lies past the end counts as 0.
+pub fn bytes_at<const N: usize>(bytes: &[u8], place: usize) -> [u8; N]
+    ensures each { (k : ℕ) → k < N → slice_index result k ≡ byte bytes.now (place + k) }
+    ensures two { N ≡ 2 → from_be_bytes w16 result ≡ two bytes.now place }
+    ensures four { N ≡ 4 → from_be_bytes w32 result ≡ four bytes.now place }
 {
-    if place >= bytes.len() {
-        return 0;
-    }
-    u32::from(number_of_two(bytes, place)) * 65536 + u32::from(number_of_two(bytes, place + 2))
+    let rest = rest_from(bytes, place);
+    let count = rest.len().min(N);
+    let mut found = [0; N];
+    found[..count].copy_from_slice(&rest[..count]);
+    found
 }

@@ -1,8 +1,9 @@
 // Header blocks.
 use blocks::{read_headers, write_headers};
+use fields::refusal::Refusal;
 use fields::sides::Sides;
 use packets::header::Header;
-use std::test::Fail;
+use std::process::Abort;
 
 const BLOCK: [u8; 32] = [
     10, 1, 2, 3, 192, 0, 2, 9, 0x9C, 0x40, 0x13, 0x8C, 17, 0, 0, 0, 255, 255, 255, 255, 0, 0, 0, 1,
@@ -45,56 +46,42 @@ const SECOND: Header = Header {
     protocol: 255,
 };
 
-// The refusal's number; 0 where the block was read, 255 where the list was changed all the same.
-fn refused(bytes: &[u8]) -> u8 {
+// The number that a read of one header is refused with. A refused read leaves the list as it was.
+fn refused(rt: &impl Abort, bytes: &[u8]) -> Option<u8> {
     let mut list = [NONE; 1];
-    match read_headers(bytes, &mut list) {
-        Ok(_) => 0,
-        Err(e) if list[0] == NONE => e.number(),
-        Err(_) => 255,
-    }
+    let refusal = read_headers(bytes, &mut list).err()?;
+    assert_eq!(rt; list[0], NONE);
+    Some(refusal.number())
 }
 
 #[test]
 fn read(rt: HostRuntime) {
     let mut list = [NONE; 3];
-    assert!(rt; read_headers(&BLOCK, &mut list).is_ok());
-    assert_eq!(rt; list[0], FIRST);
-    assert_eq!(rt; list[1], SECOND);
-    assert_eq!(rt; list[2], NONE);
+    assert_eq!(rt; read_headers(&BLOCK, &mut list), Ok(2));
+    assert_eq!(rt; list, [FIRST, SECOND, NONE]);
 }
 
 #[test]
 fn refusals(rt: HostRuntime) {
-    assert_eq!(rt; refused(&BLOCK), 9);
-    assert_eq!(rt; refused(&BLOCK[0..16]), 0);
-    assert_eq!(rt; refused(&BLOCK[0..15]), 23);
-    assert_eq!(rt; refused(&BLOCK[0..17]), 23);
-    assert_eq!(rt; refused(&[]), 0);
-    assert_eq!(rt;
-        refused(&[0, 0, 0, 0, 0, 0, 0, 0, 0, 0, 0, 0, 0, 1, 0, 0]),
-        23
-    );
-    assert_eq!(rt;
-        refused(&[0, 0, 0, 0, 0, 0, 0, 0, 0, 0, 0, 0, 0, 0, 1, 0]),
-        23
-    );
-    assert_eq!(rt;
-        refused(&[0, 0, 0, 0, 0, 0, 0, 0, 0, 0, 0, 0, 0, 0, 0, 1]),
-        23
-    );
+    assert_eq!(rt; refused(&rt, &BLOCK), Some(9));
+    assert_eq!(rt; refused(&rt, &BLOCK[..16]), None);
+    assert_eq!(rt; refused(&rt, &BLOCK[..15]), Some(23));
+    assert_eq!(rt; refused(&rt, &BLOCK[..17]), Some(23));
+    assert_eq!(rt; refused(&rt, &[]), None);
+    for place in 13..16 {
+        let mut spoiled = [0; 16];
+        spoiled[place] = 1;
+        assert_eq!(rt; refused(&rt, &spoiled), Some(23), "at {place}");
+    }
 }
 
 #[test]
-fn written(rt: HostRuntime) -> Result<(), Fail> {
+fn written(rt: HostRuntime) {
     let mut out = [0xEE; 32];
-    assert!(rt; write_headers(&[FIRST, SECOND], &mut out).is_ok());
+    assert_eq!(rt; write_headers(&[FIRST, SECOND], &mut out), Ok(32));
     assert_eq!(rt; out, BLOCK);
     let mut short = [0xEE; 31];
-    match write_headers(&[FIRST, SECOND], &mut short) {
-        Ok(_) => return Err(Fail::new("written")),
-        Err(e) => assert_eq!(rt; e.number(), 9),
-    }
+    let refusal = write_headers(&[FIRST, SECOND], &mut short).err();
+    assert_eq!(rt; refusal.map(Refusal::number), Some(9));
     assert_eq!(rt; short, [0xEE; 31]);
-    Ok(())
 }

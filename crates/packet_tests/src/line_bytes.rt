@@ -12,18 +12,14 @@ fn check_line(
     line: &[u8],
 ) -> Result<(), Fail> {
     let mut out = [0xEE; 64];
-    let Ok(count) = write_header_line(index, rules, hits, &mut out) else {
-        return Err(Fail::new("refused"));
-    };
+    let count = write_header_line(index, rules, hits, &mut out)?;
     assert!(rt; count <= 64);
-    assert_eq!(rt; &out[0..count], line);
+    assert_eq!(rt; &out[..count], line);
     assert!(rt; count < 64 && out[count] == 0xEE);
     let mut short = [0xEE; 64];
     assert!(rt; count > 0);
-    match write_header_line(index, rules, hits, &mut short[0..count - 1]) {
-        Ok(_) => return Err(Fail::new("written")),
-        Err(e) => assert_eq!(rt; e.number(), 9),
-    }
+    let refusal = write_header_line(index, rules, hits, &mut short[..count - 1]).err();
+    assert_eq!(rt; refusal.map(Refusal::number), Some(9));
     assert_eq!(rt; short, [0xEE; 64]);
     Ok(())
 }
@@ -44,8 +40,11 @@ fn headers(rt: HostRuntime) -> Result<(), Fail> {
 #[test]
 fn refusals(rt: HostRuntime) {
     let mut out = [0xEE; 12];
-    assert!(rt; write_refusal_line(Refusal::ByteCount, &mut out).is_ok());
+    assert_eq!(rt; write_refusal_line(Refusal::ByteCount, &mut out), Ok(11));
     assert_eq!(rt; &out, b"refused 10\n\xEE");
-    assert!(rt; write_refusal_line(Refusal::NoRoom, &mut out[0..9]).is_err());
+    assert_eq!(rt;
+        write_refusal_line(Refusal::NoRoom, &mut out[..9]),
+        Err(Refusal::NoRoom)
+    );
     assert_eq!(rt; &out, b"refused 10\n\xEE");
 }

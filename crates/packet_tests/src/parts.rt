@@ -1,5 +1,5 @@
 // What follows a packet's header.
-use packets::packet::Rest;
+use packets::packet::Follows;
 use packets::reading::read_packet;
 use std::test::Fail;
 
@@ -11,20 +11,14 @@ const PACKET: [u8; 39] = [
 
 #[test]
 fn borrowed(rt: HostRuntime) -> Result<(), Fail> {
-    let Ok(packet) = read_packet(&PACKET) else {
-        return Err(Fail::new("refused"));
-    };
+    let packet = read_packet(&PACKET)?;
     assert_eq!(rt; packet.header.addresses.source, 0x0A01_0203);
     assert_eq!(rt; packet.header.addresses.destination, 0xC000_0209);
     assert_eq!(rt; packet.header.ports.source, 40000);
     assert_eq!(rt; packet.header.ports.destination, 5004);
     assert_eq!(rt; packet.header.protocol, 17);
-    match packet.rest {
-        Rest::Udp { part, place } => {
-            assert_eq!(rt; place, 24);
-            assert_eq!(rt; part, &PACKET[24..36]);
-            Ok(())
-        }
-        _ => Err(Fail::new("not UDP")),
-    }
+    assert_eq!(rt; packet.rest.follows, Follows::Udp);
+    assert_eq!(rt; packet.rest.place, 24);
+    assert_eq!(rt; packet.rest.part, &PACKET[24..36]);
+    Ok(())
 }

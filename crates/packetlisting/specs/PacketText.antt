@@ -1,8 +1,10 @@
 -- What the listing of a file that should be one packet says.
 use Rattle.std.specs.Prelude.{ℕ, cond, List, ◌++◌, length, Some, None, codes, decimal, Option, nat_lt}
 use Rattle.lines.specs.Lines.{refusal_line}
-use Rattle.packets.specs.Packets.{Follows, tcp, udp, later_fragment, other, Shown, packet_refusal, packet_shown}
+use Rattle.packets.specs.Packets.{Shown, packet_refusal, packet_shown}
 use Rattle.packets.specs.declared.header.Header.{Header}
+use Rattle.packets.specs.declared.packet.Follows.{Follows}
+use Rattle.packets.specs.declared.packet.Follows.TheVariants.{Tcp, Udp, LaterFragment, Other}
 use Rattle.texts.specs.Text.{address_text}
 
 -- both addresses, both ports, the protocol
@@ -12,10 +14,10 @@ header_text h =
     (decimal h.ports.source ++ (codes " " ++ (decimal h.ports.destination ++ (codes " " ++ decimal h.protocol)))))))
 
 abbrev pub name : Follows → List ℕ
-name tcp = codes "tcp"
-name udp = codes "udp"
-name later_fragment = codes "later fragment"
-name other = codes "other"
+name Tcp = codes "tcp"
+name Udp = codes "udp"
+name LaterFragment = codes "later fragment"
+name Other = codes "other"
 
 -- what follows the header, how many bytes, and where they begin
 abbrev pub rest_text : List ℕ → ℕ → ℕ → List ℕ

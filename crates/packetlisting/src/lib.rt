@@ -5,12 +5,12 @@ ghost use Rattle.std.specs.Prelude.{◌≡◌, length, IfOk, IfErr, Some, string
 ghost use Rattle.fields.specs.Refusals.{code};
 ghost use Rattle.fields.specs.declared.refusal.Refusal.TheVariants.{Memory};
 ghost use Rattle.lines.specs.Lines.{refusal_line};
-ghost use Rattle.packets.specs.Packets.{follows_of, part_of, place_of, shown};
-ghost use Rattle.packetlisting.specs.PacketText.{header_text, name as name_of, rest_text, shown_text, packet_text};
+ghost use Rattle.packets.specs.Packets.{shown};
+ghost use Rattle.packetlisting.specs.PacketText.{header_text, name, rest_text, shown_text, packet_text};
 
 use fields::refusal::Refusal;
 use packets::header::Header;
-use packets::packet::{Packet, Rest};
+use packets::packet::{Follows, Packet, Rest};
 use packets::reading::read_packet;
 use std::alloc::Global;
 use std::fmt;
@@ -42,47 +42,21 @@ impl fmt::Display for HeaderText {
 
 // What follows the header, how many bytes, and where they begin.
 #[derive(Clone, Copy)]
-pub struct RestText {
-    name: &'static str,
-    count: usize,
-    place: usize,
-}
+pub struct RestText<'a>(pub Rest<'a>);
 
-impl fmt::Display for RestText {
-    ghost output = { λ t. Some (rest_text t.name.now t.count t.place) };
+impl fmt::Display for RestText<'_> {
+    ghost output = { λ t. Some (rest_text (name t.0.follows) (length t.0.part.now) t.0.place) };
 
     fn fmt<W: fmt::Write>(&self, f: &mut fmt::Formatter<W>) -> fmt::Result {
-        let name = self.name;
-        let count = self.count;
-        let place = self.place;
+        let name = match self.0.follows {
+            Follows::Tcp => "tcp",
+            Follows::Udp => "udp",
+            Follows::LaterFragment => "later fragment",
+            Follows::Other => "other",
+        };
+        let count = self.0.part.len();
+        let place = self.0.place;
         write!(f, "{name}, {count} bytes at {place}")
-    }
-}
-
-fn text_of_rest(rest: Rest<'_>) -> RestText
-    ensures { (result.name.now ≡ name_of (follows_of rest.entry)) × (result.count ≡ length (part_of rest.entry)) × (result.place ≡ place_of rest.entry) }
-{
-    match rest {
-        Rest::Tcp { part, place } => RestText {
-            name: "tcp",
-            count: part.len(),
-            place,
-        },
-        Rest::Udp { part, place } => RestText {
-            name: "udp",
-            count: part.len(),
-            place,
-        },
-        Rest::LaterFragment { part, place } => RestText {
-            name: "later fragment",
-            count: part.len(),
-            place,
-        },
-        Rest::Other { part, place } => RestText {
-            name: "other",
-            count: part.len(),
-            place,
-        },
     }
 }
 
@@ -92,11 +66,8 @@ fn refusal_text(heap: Global, refusal: Refusal) -> Result<String, Refusal>
     ensures want { IfErr result (λ e. e ≡ Memory) }
 {
     let mut text = String::new(heap);
-    let number = refusal.number();
-    match writeln!(text, "refused {number}") {
-        Ok(()) => Ok(text),
-        Err(_) => Err(Refusal::Memory),
-    }
+    writeln!(text, "{refusal}")?;
+    Ok(text)
 }
 
 // The header of a packet and what follows it, a line each.
@@ -106,11 +77,9 @@ fn lines_of_packet(heap: Global, packet: Packet<'_>) -> Result<String, Refusal>
 {
     let mut text = String::new(heap);
     let header = HeaderText(packet.header);
-    let rest = text_of_rest(packet.rest);
-    match writeln!(text, "{header}\n{rest}") {
-        Ok(()) => Ok(text),
-        Err(_) => Err(Refusal::Memory),
-    }
+    let rest = RestText(packet.rest);
+    writeln!(text, "{header}\n{rest}")?;
+    Ok(text)
 }
 
 // What is printed of the bytes of a file that should be one packet.

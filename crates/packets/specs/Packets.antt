@@ -4,8 +4,8 @@ use Rattle.fields.specs.Refusals.{first}
 use Rattle.octets.specs.Numbers.{byte, two, four}
 use Rattle.packets.specs.declared.header.Header.{Header}
 use Rattle.packets.specs.declared.packet.Packet.{Packet}
-use Rattle.packets.specs.declared.packet.Rest.{Rest}
-use Rattle.packets.specs.declared.packet.Rest.TheVariants.{Tcp, Udp, LaterFragment, Other}
+use Rattle.packets.specs.declared.packet.Follows.{Follows}
+use Rattle.packets.specs.declared.packet.Follows.TheVariants.{Tcp, Udp, LaterFragment, Other}
 
 module _ (bs : List ℕ) where
   abbrev pub version : ℕ
@@ -48,12 +48,9 @@ module _ (bs : List ℕ) where
     protocol = protocol;
   }
 
--- what follows the header
-pub data Follows : Type 0 where
-  tcp : Follows
-  udp : Follows
-  later_fragment : Follows
-  other : Follows
+-- what follows the header, by the fragment offset and the protocol
+abbrev pub follows_at : ℕ → ℕ → Follows
+follows_at offset protocol = cond (offset == 0) (cond (protocol == 6) Tcp (cond (protocol == 17) Udp Other)) LaterFragment
 
 -- a packet as it is shown: its header, what follows, the bytes that do, and their place
 pub record Shown : Type 0 where
@@ -65,29 +62,11 @@ pub record Shown : Type 0 where
 abbrev pub packet_shown : List ℕ → Shown
 packet_shown bs = record {
   header = header bs;
-  follows = cond (offset bs == 0) (cond (protocol bs == 6) tcp (cond (protocol bs == 17) udp other)) later_fragment;
+  follows = follows_at (offset bs) (protocol bs);
   part = take (total bs - start bs) (drop (start bs) bs);
   place = start bs;
 }
 
 -- the same of a packet that was read
-abbrev pub follows_of : Rest → Follows
-follows_of (Tcp part place) = tcp
-follows_of (Udp part place) = udp
-follows_of (LaterFragment part place) = later_fragment
-follows_of (Other part place) = other
-
-abbrev pub part_of : Rest → List ℕ
-part_of (Tcp part place) = part.now
-part_of (Udp part place) = part.now
-part_of (LaterFragment part place) = part.now
-part_of (Other part place) = part.now
-
-abbrev pub place_of : Rest → ℕ
-place_of (Tcp part place) = place
-place_of (Udp part place) = place
-place_of (LaterFragment part place) = place
-place_of (Other part place) = place
-
 abbrev pub shown : Packet → Shown
-shown p = record { header = p.header; follows = follows_of p.rest; part = part_of p.rest; place = place_of p.rest }
+shown p = record { header = p.header; follows = p.rest.follows; part = p.rest.part.now; place = p.rest.place }

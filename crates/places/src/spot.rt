@@ -106,10 +106,8 @@ impl<F: Finder, L: Field<Value = F::Value>> Spot for At<F, L> {
     ghost room = { λ s. F.Finder.room s.finder };
 
     fn check(part: PatternRow) -> Result<(), Refusal> {
-        match F::Kind::make(part.length, part.number) {
-            Ok(_) => Ok(()),
-            Err(refusal) => Err(refusal),
-        }
+        F::Kind::make(part.length, part.number)?;
+        Ok(())
     }
 
     fn matches(part: PatternRow, header: &L::Header) -> bool {
@@ -138,8 +136,5 @@ impl<F: Finder, L: Field<Value = F::Value>> Spot for At<F, L> {
 fn pattern<F: Finder>(part: PatternRow) -> F::Pattern
     ensures { result ≡ pattern_of (record { Pattern = F.Pattern; Value = F.Value; nest = F.Kind.nest }) part }
 {
-    match F::Kind::make(part.length, part.number) {
-        Ok(p) => p,
-        Err(_) => F::Kind::whole(),
-    }
+    F::Kind::make(part.length, part.number).unwrap_or(F::Kind::whole())
 }

@@ -1,6 +1,5 @@
 -- Parts that are read one after another.
-use Rattle.std.proofs.Common.{◌≡◌, ℕ, ◌+◌, List, [], ◌∷◌, ◌++◌, length, None, subst, inl, inr, arith}
-use Rattle.std.specs.List.{AllByRecursion}
+use Rattle.std.proofs.Common.{◌≡◌, ℕ, ◌+◌, List, [], ◌∷◌, ◌++◌, length, subst, inl, inr, arith}
 use Rattle.sheets.specs.Words.{rest}
 use Rattle.sheets.specs.Reading.{at, parts, pattern_at, address_at, rule_at}
 use Rattle.sheets.specs.declared.part.Side.{Side}
@@ -9,32 +8,27 @@ use Rattle.sheets.specs.declared.part.Part.{Part}
 use Rattle.sheets.specs.declared.part.Part.TheVariants.{Upper, Lower, Port, Protocol}
 use Rattle.sheets.specs.declared.row.PatternRow.{PatternRow}
 use Rattle.sheets.specs.declared.fault.Fault.{Fault}
-use Rattle.reader.specs.Readers.{Halts, due_refusals}
+use Rattle.reader.specs.Readers.{Passes, Fails}
 
 module _ (ws : List ℕ) where
-  -- nothing is wrong with the words of the parts from place i on
-  abbrev pub Passes : List Part → ℕ → Type 0
-  Passes ps i = AllByRecursion (λ o. o ≡ None) (due_refusals ws ps i)
-
-  -- f is the fault of the first of them
-  abbrev pub Fails : List Part → ℕ → Fault → Type 0
-  Fails ps i f = Halts (due_refusals ws ps i) i f
-
-  pub passes_then : (ps qs : List Part) (i j : ℕ) → i + length ps ≡ j → Passes ps i → Passes qs j → Passes (ps ++ qs) i
-  passes_then [] qs i j e a b = let k : j ≡ i = omega arith in subst (Passes qs) k b
+  pub passes_then : (ps qs : List Part) (i j : ℕ) → i + length ps ≡ j → Passes ws ps i → Passes ws qs j → Passes ws (ps ++ qs) i
+  unfolding Passes Fails
+  passes_then [] qs i j e a b = let k : j ≡ i = omega arith in subst (Passes ws qs) k b
   passes_then (p ∷ ps) qs i j e (a, t) b = (a, passes_then ps qs (i + 1) j (omega arith) t b)
 
-  fails_then : (ps qs : List Part) (i j : ℕ) (f : Fault) → i + length ps ≡ j → Passes ps i → Fails qs j f → Fails (ps ++ qs) i f
-  fails_then [] qs i j f e a h = let k : j ≡ i = omega arith in subst (λ (m : ℕ). Fails qs m f) k h
+  fails_then : (ps qs : List Part) (i j : ℕ) (f : Fault) → i + length ps ≡ j → Passes ws ps i → Fails ws qs j f → Fails ws (ps ++ qs) i f
+  unfolding Passes Fails
+  fails_then [] qs i j f e a h = let k : j ≡ i = omega arith in subst (λ (m : ℕ). Fails ws qs m f) k h
   fails_then (p ∷ ps) qs i j f e (a, t) h = inr (a, fails_then ps qs (i + 1) j f (omega arith) t h)
 
-  fails_first : (ps qs : List Part) (i : ℕ) (f : Fault) → Fails ps i f → Fails (ps ++ qs) i f
+  fails_first : (ps qs : List Part) (i : ℕ) (f : Fault) → Fails ws ps i f → Fails ws (ps ++ qs) i f
+  unfolding Passes Fails
   fails_first [] qs i f h = absurd h
   fails_first (p ∷ ps) qs i f (inl h) = inl h
   fails_first (p ∷ ps) qs i f (inr (a, h)) = inr (a, fails_first ps qs (i + 1) f h)
 
   -- the parts ps pass, one of qs fails, and the others are not reached
-  pub fails_within : (ps qs os : List Part) (i j : ℕ) (f : Fault) → i + length ps ≡ j → Passes ps i → Fails qs j f → Fails (ps ++ (qs ++ os)) i f
+  pub fails_within : (ps qs os : List Part) (i j : ℕ) (f : Fault) → i + length ps ≡ j → Passes ws ps i → Fails ws qs j f → Fails ws (ps ++ (qs ++ os)) i f
   fails_within ps qs os i j f e a h = fails_then ps (qs ++ os) i j f e a (fails_first qs os j f h)
 
 -- ---- the parts of the rule whose number is at place i
@@ -51,8 +45,12 @@ module _ (ws : List ℕ) (i : ℕ) where
   rule_made n a b c d e =
       λ k. record { number = n k; addresses = record { source = a k; destination = b k }; ports = record { source = c k; destination = d k }; protocol = e k }
 
+  passes_none : Passes ws [] (i + 1)
+  unfolding Passes
+  passes_none = tt
+
   pub from_fails : (f : Fault) → Fails ws (address Source) (i + 1) f → Fails ws parts (i + 1) f
-  from_fails f h = fails_within ws [] (address Source) (address Destination ++ (Port Source ∷ Port Destination ∷ Protocol ∷ [])) (i + 1) (i + 1) f (omega arith) tt h
+  from_fails f h = fails_within ws [] (address Source) (address Destination ++ (Port Source ∷ Port Destination ∷ Protocol ∷ [])) (i + 1) (i + 1) f (omega arith) passes_none h
 
   module _ (a : Passes ws (address Source) (i + 1)) where
     pub to_fails : (f : Fault) → Fails ws (address Destination) (i + 3) f → Fails ws parts (i + 1) f
@@ -76,8 +74,11 @@ module _ (ws : List ℕ) (i : ℕ) where
           ports_pass : Passes ws (addresses ++ (Port Source ∷ Port Destination ∷ [])) (i + 1)
           ports_pass = passes_then ws (addresses ++ (Port Source ∷ [])) (Port Destination ∷ []) (i + 1) (i + 6) (omega arith) from_passes d
 
-          pub protocol_fails : (f : Fault) → Fails ws (Protocol ∷ []) (i + 7) f → Fails ws parts (i + 1) f
-          protocol_fails f h = fails_within ws (addresses ++ (Port Source ∷ Port Destination ∷ [])) (Protocol ∷ []) [] (i + 1) (i + 7) f (omega arith) ports_pass h
+          pub last_fails : (f : Fault) → Fails ws (Protocol ∷ []) (i + 7) f → Fails ws parts (i + 1) f
+          last_fails f h = fails_within ws (addresses ++ (Port Source ∷ Port Destination ∷ [])) (Protocol ∷ []) [] (i + 1) (i + 7) f (omega arith) ports_pass h
 
           pub parts_pass : Passes ws (Protocol ∷ []) (i + 7) → Passes ws parts (i + 1)
           parts_pass e = passes_then ws (addresses ++ (Port Source ∷ Port Destination ∷ [])) (Protocol ∷ []) (i + 1) (i + 7) (omega arith) ports_pass e
+
+-- what the parts of a rule come to, one after another
+pub ruleset rule_read = (from_fails, to_fails, from_port_fails, to_port_fails, last_fails, parts_pass)

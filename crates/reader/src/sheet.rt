@@ -1,70 +1,90 @@
 // The sheet reader.
-ghost use Rattle.std.specs.Prelude.{◌≡◌, ◌*◌, ◌≤◌, [], ◌∷◌, length};
-ghost use Rattle.sheets.specs.Reading.{Answers, least, listed, sheet_read};
-ghost use Rattle.reader.specs.Readers.{words_of, Reads, opening_due, opened, Found};
+ghost use Rattle.std.specs.Prelude.{◌≡◌, ◌+◌, ◌*◌, ◌^◌, ◌<◌, ◌≤◌, [], ◌∷◌, length, IfSome, IfOk, MatchResult};
+ghost use Rattle.fields.specs.Refusals.{code};
+ghost use Rattle.fields.specs.declared.refusal.Refusal.TheVariants.{SheetEnd};
+ghost use Rattle.sheets.specs.Faults.{fault_at};
+ghost use Rattle.sheets.specs.Reading.{Answers, accepted, refused, least, listed, sheet_read};
+ghost use Rattle.reader.specs.Readers.{words_of, ReadsWord, opening_due, opened, Found, Tells};
 
-use crate::{rules, words};
-use fields::numbers::PrefixLength;
+use crate::words::WordsFrom;
+use arrayvec::ArrayVec;
 use fields::refusal::Refusal;
-use fields::sides::Sides;
 use sheets::fault::Fault;
-use sheets::row::{PatternRow, RuleRow};
+use sheets::row::RuleRow;
+use sheets::word::WordKind;
 
 // Numbers ascend and are at most 255.
-const MOST_RULES: usize = 256;
+pub const MOST_RULES: usize = 256;
 
-const NO_PATTERN: PatternRow = PatternRow {
-    length: PrefixLength { bits: 0 },
-    number: 0,
-};
+// The rules of a sheet, in their order.
+pub type Rules = ArrayVec<RuleRow, MOST_RULES>;
 
-const NO_RULE: RuleRow = RuleRow {
-    number: 0,
-    addresses: Sides {
-        source: NO_PATTERN,
-        destination: NO_PATTERN,
-    },
-    ports: Sides {
-        source: NO_PATTERN,
-        destination: NO_PATTERN,
-    },
-    protocol: NO_PATTERN,
-};
+impl WordsFrom<'_> {
+    // Where a rule or the end is due: the number of the rule, which has to be `lowest` or above, or none where the sheet ends.
+    #[tactic(auto, unfolding(crate::specs::Readers::Refused, crate::specs::Readers::opening_due, crate::specs::Readers::opened))]
+    fn opening(self, lowest: u32) -> Result<Option<u32>, Fault>
+        requires { lowest ≡ least (words_of self.words.now) self.place }
+        ensures read { let ws = words_of self.entry.words.now in let i = self.entry.place in ReadsWord (opening_due ws i) i (opened ws i) result }
+        ensures few { IfOk result (λ o. IfSome o (λ k. (lowest ≤ k) × (k ≤ 255))) }
+    {
+        let word = self.word()?;
+        let rest = word.rest();
+        let Some(kind) = WordKind::of(word.bits) else {
+            return Err(self.fault(Refusal::WordKind));
+        };
+        match kind {
+            WordKind::Rule if rest > 255 => Err(self.fault(Refusal::RuleNumber)),
+            WordKind::Rule if rest < lowest => Err(self.fault(Refusal::RuleOrder)),
+            WordKind::Rule => Ok(Some(rest)),
+            WordKind::End if rest as usize != self.place / 8 => Err(self.fault(Refusal::RuleCount)),
+            WordKind::End => Ok(None),
+            _ => Err(self.fault(Refusal::WordKind)),
+        }
+    }
 
-// After `count` rules: the number of the next, which has to be `lowest` or above, or none where the sheet ends.
-fn read_opening(bytes: &[u8], count: usize, lowest: u32) -> Result<Option<u32>, Fault>
-    requires { (count ≤ 256) × (lowest ≡ least (words_of bytes.now) (8 * count)) }
-    ensures { Reads (opening_due (words_of bytes.now) (8 * count) ∷ []) (8 * count) (opened (words_of bytes.now) (8 * count)) result }
-{
-    let place = 8 * count;
-    let w = words::word(bytes, place)?;
-    let rest = words::word_rest(w);
-    match words::word_kind(w) {
-        1 if rest > 255 => Err(Fault::at(Refusal::RuleNumber, place)),
-        1 if rest < lowest => Err(Fault::at(Refusal::RuleOrder, place)),
-        1 => Ok(Some(rest)),
-        6 if rest as usize != count => Err(Fault::at(Refusal::RuleCount, place)),
-        6 => Ok(None),
-        _ => Err(Fault::at(Refusal::WordKind, place)),
+    // Refuses words after the first, which ends the sheet.
+    fn end(self) -> Result<(), Fault>
+        requires { self.place + 8 < 2 ^ 64 }
+        ensures { MatchResult result (λ _. length self.entry.words.now ≤ self.entry.place + 1) (λ f. (self.entry.place + 1 < length self.entry.words.now) × (f ≡ fault_at SheetEnd (self.entry.place + 1))) }
+    {
+        let next = self.on(1);
+        if next.place < self.words.len() {
+            return Err(next.fault(Refusal::SheetEnd));
+        }
+        Ok(())
     }
 }
 
-// Reads the rules of whole words, and tells how many there are.
-fn read_rules(bytes: &[u8], rows: &mut [RuleRow; MOST_RULES]) -> Result<usize, Fault>
-    ensures { Found (words_of bytes.now) rows.new result }
+// The rules of the words of a sheet.
+#[tactic(auto, using(crate::proofs::Turns::turns))]
+fn read_rules(words: &[[u8; 4]]) -> Result<Rules, Fault>
+    ensures { Found (words_of words.now) result }
 {
-    let mut count = 0;
+    let mut rules = ArrayVec::new();
     let mut lowest = 0;
-    while let Some(number) = read_opening(bytes, count, lowest)? {
-        rows[count] = rules::read_rule(bytes, 8 * count, number)?;
+    loop {
+        let place = 8 * rules.len();
+        let at = WordsFrom { words, place };
+        let Some(number) = at.opening(lowest)? else {
+            at.end()?;
+            return Ok(rules);
+        };
+        let rule = at.rule(number)?;
+        rules.push(rule);
         lowest = number + 1;
-        count += 1;
     }
-    let next = 8 * count + 1;
-    if next < bytes.len() / 4 {
-        return Err(Fault::at(Refusal::SheetEnd, next));
+}
+
+// The rules of a sheet. What is told holds for a rule list of any number of places, and there is always room here.
+pub fn rules_of_sheet(bytes: &[u8]) -> Result<Rules, Fault>
+    ensures here { MatchResult result (λ v. sheet_read bytes.now 256 ≡ accepted v.items) (λ f. sheet_read bytes.now 256 ≡ refused (code f.refusal) f.place f.layer) }
+    ensures anywhere { Tells bytes.now result }
+{
+    let (words, rest) = bytes.as_chunks::<4>();
+    if bytes.is_empty() || !rest.is_empty() {
+        return Err(Fault::at(Refusal::ByteCount, 0));
     }
-    Ok(count)
+    read_rules(words)
 }
 
 // Reads a sheet into a rule list, and tells how many rules it has. A refused read leaves the list as it was.
@@ -72,14 +92,11 @@ pub fn read_sheet(bytes: &[u8], rules: &mut [RuleRow]) -> Result<usize, Fault>
     ensures answer { Answers (sheet_read bytes.now (length rules.old)) result }
     ensures list { rules.new ≡ listed (sheet_read bytes.now (length rules.old)) rules.old }
 {
-    if bytes.is_empty() || bytes.len() % 4 != 0 {
-        return Err(Fault::at(Refusal::ByteCount, 0));
-    }
-    let mut rows = [NO_RULE; MOST_RULES];
-    let count = read_rules(bytes, &mut rows)?;
+    let read = rules_of_sheet(bytes)?;
+    let count = read.len();
     if count > rules.len() {
         return Err(Fault::at(Refusal::NoRoom, 0));
     }
-    rules[0..count].copy_from_slice(&rows[0..count]);
+    rules[0..count].copy_from_slice(read.as_slice());
     Ok(count)
 }

@@ -1,110 +1,120 @@
 // The word reader.
-ghost use Rattle.std.specs.Prelude.{◌≡◌, [], ◌∷◌, None};
+ghost use Rattle.std.specs.Prelude.{◌≡◌, ◌+◌, ◌^◌, ◌<◌, [], ◌∷◌, None};
+ghost use Rattle.sheets.specs.Faults.{fault_at};
 ghost use Rattle.sheets.specs.Reading.{at, pattern_at, in_form};
-ghost use Rattle.sheets.specs.Words.{kind, rest, side, size, low, kind_due, side_of};
-ghost use Rattle.reader.specs.Readers.{words_of, Reads, missing_or, form_refusal};
+ghost use Rattle.sheets.specs.Words.{rest, side, size, low};
+ghost use Rattle.reader.specs.Readers.{words_of, ReadsWord, missing_or, form_refusal};
 
 use fields::numbers::PrefixLength;
 use fields::refusal::Refusal;
 use sheets::fault::Fault;
-use sheets::part::{Part, Side};
+use sheets::part::Part;
 use sheets::row::PatternRow;
+use sheets::word::WordKind;
 
-// The word at a place, its highest byte first.
-pub(crate) fn word(bytes: &[u8], place: usize) -> Result<u32, Fault>
-    ensures { Reads (missing_or (words_of bytes.now) None place ∷ []) place (at (words_of bytes.now) place) result }
-{
-    if place >= bytes.len() / 4 {
-        return Err(Fault::at(Refusal::SheetEnd, place));
+#[derive(Clone, Copy)]
+pub(crate) struct Word {
+    pub(crate) bits: u32,
+}
+
+impl Word {
+    // Bits 28-0.
+    pub(crate) fn rest(self) -> u32
+        ensures { result ≡ rest self.bits }
+    {
+        self.bits % (1 << 29)
     }
-    let start = 4 * place;
-    Ok(u32::from_be_bytes([
-        bytes[start],
-        bytes[start + 1],
-        bytes[start + 2],
-        bytes[start + 3],
-    ]))
-}
 
-// Bits 31-29.
-pub(crate) fn word_kind(w: u32) -> u32
-    ensures { result ≡ kind w }
-{
-    w >> 29
-}
+    // Bit 28.
+    fn side(self) -> u32
+        ensures { result ≡ side self.bits }
+    {
+        (self.bits >> 28) % 2
+    }
 
-// Bits 28-0.
-pub(crate) fn word_rest(w: u32) -> u32
-    ensures { result ≡ rest w }
-{
-    w % (1 << 29)
-}
+    // Bits 27-22.
+    fn size(self) -> u8
+        ensures { result ≡ size self.bits }
+    {
+        ((self.bits >> 22) % 64) as u8
+    }
 
-// Bit 28.
-fn word_side(w: u32) -> u32
-    ensures { result ≡ side w }
-{
-    (w >> 28) % 2
-}
+    // Bits 21-0.
+    fn low(self) -> u32
+        ensures { result ≡ low self.bits }
+    {
+        self.bits % (1 << 22)
+    }
 
-// Bits 27-22.
-fn word_size(w: u32) -> u8
-    ensures { result ≡ size w }
-{
-    ((w >> 22) % 64) as u8
-}
-
-// Bits 21-0.
-fn word_low(w: u32) -> u32
-    ensures { result ≡ low w }
-{
-    w % (1 << 22)
-}
-
-fn kind_due(part: Part) -> u32
-    ensures { result ≡ kind_due part }
-{
-    match part {
-        Part::Upper(_) => 2,
-        Part::Lower(_) => 3,
-        Part::Port(_) => 4,
-        Part::Protocol => 5,
+    // Whether the bits that have to be 0 in the word of a part are, and its side is the right one.
+    fn in_form(self, part: Part) -> bool
+        ensures { result ≡ in_form (self.bits ∷ []) part 0 }
+    {
+        self.side() == part.side_bit()
+            && match part {
+                Part::Upper(_) | Part::Port(_) => self.low() < 1 << 16,
+                Part::Lower(_) => self.size() == 0 && self.low() < 1 << 16,
+                Part::Protocol => self.low() < 1 << 8,
+            }
     }
 }
 
-fn side_bit(s: Side) -> u32
-    ensures { result ≡ side_of s }
-{
-    match s {
-        Side::Source => 0,
-        Side::Destination => 1,
-    }
+// The words of a sheet from a place on.
+#[derive(Clone, Copy)]
+pub(crate) struct WordsFrom<'a> {
+    // All of them.
+    pub(crate) words: &'a [[u8; 4]],
+    pub(crate) place: usize,
 }
 
-// Whether the bits of a part's word that have to be 0 are, and its side is the right one.
-fn in_form(part: Part, w: u32) -> bool
-    ensures { result ≡ in_form (w ∷ []) part 0 }
-{
-    match part {
-        Part::Upper(s) | Part::Port(s) => word_side(w) == side_bit(s) && word_low(w) < 1 << 16,
-        Part::Lower(s) => word_side(w) == side_bit(s) && word_size(w) == 0 && word_low(w) < 1 << 16,
-        Part::Protocol => word_side(w) == 0 && word_low(w) < 1 << 8,
+impl<'a> WordsFrom<'a> {
+    // From n words further on.
+    pub(crate) fn on(self, n: usize) -> WordsFrom<'a>
+        requires { self.place + n < 2 ^ 64 }
+        ensures words { result.words.now ≡ self.entry.words.now }
+        ensures place { result.place ≡ self.entry.place + n }
+    {
+        WordsFrom {
+            words: self.words,
+            place: self.place + n,
+        }
     }
-}
 
-// The length and the number that a part's word has, of the kind and the form that are due.
-pub(crate) fn read_part(bytes: &[u8], place: usize, part: Part) -> Result<PatternRow, Fault>
-    ensures { Reads (form_refusal (words_of bytes.now) part place ∷ []) place (pattern_at (words_of bytes.now) place) result }
-{
-    let w = word(bytes, place)?;
-    if word_kind(w) != kind_due(part) {
-        return Err(Fault::at(Refusal::WordKind, place));
+    // What is wrong with the first of the words.
+    pub(crate) fn fault(self, refusal: Refusal) -> Fault
+        ensures { result ≡ fault_at refusal self.entry.place }
+    {
+        Fault::at(refusal, self.place)
     }
-    if !in_form(part, w) {
-        return Err(Fault::at(Refusal::WordBits, place));
+
+    // The first word, its highest byte first.
+    #[tactic(auto, using(crate::proofs::Bytes::at_words_of, crate::proofs::Bytes::present, crate::proofs::Bytes::missing), unfolding(crate::specs::Readers::Refused))]
+    pub(crate) fn word(self) -> Result<Word, Fault>
+        ensures { let ws = words_of self.entry.words.now in ReadsWord (missing_or ws None self.entry.place) self.entry.place (record { bits = at ws self.entry.place }) result }
+    {
+        let Some(bytes) = self.words.get(self.place) else {
+            return Err(self.fault(Refusal::SheetEnd));
+        };
+        Ok(Word {
+            bits: u32::from_be_bytes(*bytes),
+        })
     }
-    Ok(PatternRow {
-        length: PrefixLength { bits: word_size(w) },
-        number: word_low(w),
-    })
+
+    // The length and the number that the first word has, if it is one of the part, of its kind and its form.
+    #[tactic(auto, unfolding(crate::specs::Readers::Refused))]
+    pub(crate) fn part(self, part: Part) -> Result<PatternRow, Fault>
+        ensures { let ws = words_of self.entry.words.now in ReadsWord (form_refusal ws part self.entry.place) self.entry.place (pattern_at ws self.entry.place) result }
+    {
+        let word = self.word()?;
+        if WordKind::of(word.bits) != Some(part.kind()) {
+            return Err(self.fault(Refusal::WordKind));
+        }
+        if !word.in_form(part) {
+            return Err(self.fault(Refusal::WordBits));
+        }
+        Ok(PatternRow {
+            length: PrefixLength { bits: word.size() },
+            number: word.low(),
+        })
+    }
 }

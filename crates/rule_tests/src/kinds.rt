@@ -8,11 +8,9 @@ use levels::maps::{length_map, level_by_map};
 use levels::nesting::{level, nearest};
 use std::test::Fail;
 
-fn refusal_of<P: Drop>(r: Result<P, Refusal>) -> u8 {
-    match r {
-        Ok(_) => 0,
-        Err(e) => e.number(),
-    }
+// The refusal's number, or none where the pattern was made.
+fn refusal_of<P: Drop>(made: Result<P, Refusal>) -> Option<u8> {
+    made.err().map(|e| e.number())
 }
 
 fn bits(bits: u8) -> PrefixLength {
@@ -22,18 +20,18 @@ fn bits(bits: u8) -> PrefixLength {
 // What each kind makes, and with which number it refuses.
 #[test]
 fn makes(rt: HostRuntime) {
-    assert_eq!(rt; refusal_of(Address::make(bits(32), 0x0A00_0001)), 0);
-    assert_eq!(rt; refusal_of(Address::make(bits(33), 0x0A00_0001)), 2);
-    assert_eq!(rt; refusal_of(Address::make(bits(8), 0x0A00_0001)), 3);
-    assert_eq!(rt; refusal_of(Address::make(bits(0), 0)), 0);
-    assert_eq!(rt; refusal_of(Port::make(bits(16), 5004)), 0);
-    assert_eq!(rt; refusal_of(Port::make(bits(17), 5004)), 2);
-    assert_eq!(rt; refusal_of(Port::make(bits(16), 65536)), 3);
-    assert_eq!(rt; refusal_of(Port::make(bits(15), 1)), 3);
-    assert_eq!(rt; refusal_of(Protocol::make(bits(8), 17)), 0);
-    assert_eq!(rt; refusal_of(Protocol::make(bits(7), 17)), 2);
-    assert_eq!(rt; refusal_of(Protocol::make(bits(8), 256)), 3);
-    assert_eq!(rt; refusal_of(Protocol::make(bits(0), 1)), 3);
+    assert_eq!(rt; refusal_of(Address::make(bits(32), 0x0A00_0001)), None);
+    assert_eq!(rt; refusal_of(Address::make(bits(33), 0x0A00_0001)), Some(2));
+    assert_eq!(rt; refusal_of(Address::make(bits(8), 0x0A00_0001)), Some(3));
+    assert_eq!(rt; refusal_of(Address::make(bits(0), 0)), None);
+    assert_eq!(rt; refusal_of(Port::make(bits(16), 5004)), None);
+    assert_eq!(rt; refusal_of(Port::make(bits(17), 5004)), Some(2));
+    assert_eq!(rt; refusal_of(Port::make(bits(16), 65536)), Some(3));
+    assert_eq!(rt; refusal_of(Port::make(bits(15), 1)), Some(3));
+    assert_eq!(rt; refusal_of(Protocol::make(bits(8), 17)), None);
+    assert_eq!(rt; refusal_of(Protocol::make(bits(7), 17)), Some(2));
+    assert_eq!(rt; refusal_of(Protocol::make(bits(8), 256)), Some(3));
+    assert_eq!(rt; refusal_of(Protocol::make(bits(0), 1)), Some(3));
 }
 
 #[test]

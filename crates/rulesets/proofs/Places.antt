@@ -1,7 +1,9 @@
 -- The members of a set, word by word.
-use Rattle.std.proofs.Common.{◌≡◌, ℕ, zero, suc, ◌+◌, ◌-◌, ◌*◌, ◌/◌, ◌%◌, ◌^◌, ◌<◌, ◌≤◌, min, Bool, cond, eqb, ◌⊎◌, List, [], ◌∷◌, ◌++◌, length, get_or, set, filter, sym, refl, ap, ◌∙◌, ap₂, inl, inr, pow-suc, arith, length-append}
-use lib.Bits.{bit_and, bit_or, and_le_l, and_le_r, or_add_and, and_step, and_self}
+use Rattle.std.proofs.Common.{◌≡◌, ℕ, zero, suc, ◌+◌, ◌-◌, ◌*◌, ◌/◌, ◌%◌, ◌^◌, ◌<◌, min, Bool, cond, eqb, ◌⊎◌, List, [], ◌∷◌, ◌++◌, length, get_or, set, filter, sym, refl, ap, ◌∙◌, ap₂, inl, inr, pow-suc, arith, length-append}
+use lib.Bits.{bit_and, and_step, and_self}
 use lib.Count.{ones, ones_in, ones_step, count_trailing_zeros, under}
+use Rattle.std.specs.Prelude.{nat_eq}
+use Rattle.std.specs.Cmp.Lexicographic.{pointwise}
 use Rattle.std.specs.List.{range_with_len}
 use Rattle.std.proofs.lemmas.Nat.{mod_below, shr-shr}
 use Rattle.std.proofs.lemmas.List.Elements.{filter-append}
@@ -159,13 +161,6 @@ ones_none zero f = inl (refl, refl)
 ones_none (suc w) f =
     inr (omega arith, omega (arith, length_places 0 64 (suc w) f, ap length (popped_places 0 64 (suc w) (omega arith) f)))
 
-or_within : (a b : ℕ) → (a ≤ bit_or a b) × (b ≤ bit_or a b) × (bit_or a b ≤ a + b)
-or_within a b =
-    let sum = or_add_and a b in
-    let left = and_le_l a b in
-    let right = and_le_r a b in
-    (omega arith, omega arith, omega arith)
-
 -- a set whose words are of 64 bits
 module _ (s : RuleSet) (f : get_or s.words 0 0 < 2 ^ 64) (g : get_or s.words 1 0 < 2 ^ 64) (h : get_or s.words 2 0 < 2 ^ 64) (i : get_or s.words 3 0 < 2 ^ 64) where
   pub length_members : length (members s) ≡ ones (get_or s.words 0 0) + ones (get_or s.words 1 0) + ones (get_or s.words 2 0) + ones (get_or s.words 3 0)
@@ -174,10 +169,7 @@ module _ (s : RuleSet) (f : get_or s.words 0 0 < 2 ^ 64) (g : get_or s.words 1 0
       ap length (members_parts s ∙ ap (parts 0) (four s.words s.sized))
       ∙ simp length-append (omega (arith, length_places 0 64 _ f, length_places 64 64 _ g, length_places 128 64 _ h, length_places 192 64 _ i))
 
-  pub empty_members : eqb (bit_or (bit_or (bit_or (get_or s.words 0 0) (get_or s.words 1 0)) (get_or s.words 2 0)) (get_or s.words 3 0)) 0 ≡ eqb (length (members s)) 0
+  pub empty_members : pointwise nat_eq s.words (0 ∷ 0 ∷ 0 ∷ 0 ∷ []) ≡ eqb (length (members s)) 0
   empty_members =
-      let a = get_or s.words 0 0 in
-      let b = get_or s.words 1 0 in
-      let c = get_or s.words 2 0 in
-      let d = get_or s.words 3 0 in
-      grind (arith, nat_tests, length_members, ones_none a f, ones_none b g, ones_none c h, ones_none d i, or_within a b, or_within (bit_or a b) c, or_within (bit_or (bit_or a b) c) d)
+      ap (λ ws. pointwise nat_eq ws (0 ∷ 0 ∷ 0 ∷ 0 ∷ [])) (four s.words s.sized)
+      ∙ grind (arith, nat_tests, length_members, ones_none (get_or s.words 0 0) f, ones_none (get_or s.words 1 0) g, ones_none (get_or s.words 2 0) h, ones_none (get_or s.words 3 0) i)

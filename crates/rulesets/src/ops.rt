@@ -4,6 +4,7 @@ ghost use Rattle.std.specs.Option.{option_to_list};
 ghost use Rattle.rulesets.specs.Sets.{has as has_number, members};
 
 use crate::ruleset::RuleSet;
+use std::ops::{BitAnd, BitOr};
 
 impl RuleSet {
     // No numbers.
@@ -30,33 +31,10 @@ impl RuleSet {
         RuleSet { words }
     }
 
-    // The numbers that are in both.
-    pub fn and(self, other: RuleSet) -> RuleSet
-        ensures { (m : ℕ) → has_number result m ≡ (has_number self m && has_number other m) }
-    {
-        let [a, b, c, d] = self.words;
-        let [e, f, g, h] = other.words;
-        RuleSet {
-            words: [a & e, b & f, c & g, d & h],
-        }
-    }
-
-    // The numbers that are in one of them.
-    pub fn or(self, other: RuleSet) -> RuleSet
-        ensures { (m : ℕ) → has_number result m ≡ (has_number self m || has_number other m) }
-    {
-        let [a, b, c, d] = self.words;
-        let [e, f, g, h] = other.words;
-        RuleSet {
-            words: [a | e, b | f, c | g, d | h],
-        }
-    }
-
     pub fn is_empty(self) -> bool
         ensures { result ≡ (length (members self) == 0) }
     {
-        let [a, b, c, d] = self.words;
-        a | b | c | d == 0
+        self.words == [0; 4]
     }
 
     pub fn count(self) -> usize
@@ -71,13 +49,39 @@ impl RuleSet {
         ensures taken { members self.old ≡ option_to_list result ++ members self.new }
         ensures none { is_some result ≡ false → members self.old ≡ [] }
     {
-        for i in 0..4usize {
-            let word = self.words[i];
-            if word != 0 {
-                self.words[i] = word & (word - 1);
-                return Some(i as u8 * 64 + word.trailing_zeros() as u8);
-            }
+        let i = self.words.iter().position(|word| *word != 0)?;
+        let word = self.words[i];
+        self.words[i] = word & (word - 1);
+        Some(i as u8 * 64 + word.trailing_zeros() as u8)
+    }
+}
+
+// The numbers that are in both.
+impl BitAnd for RuleSet {
+    type Output = RuleSet;
+
+    ghost bitand_gives = { λ s t r. (m : ℕ) → has_number r m ≡ (has_number s m && has_number t m) };
+
+    fn bitand(self, other: RuleSet) -> RuleSet {
+        let [a, b, c, d] = self.words;
+        let [e, f, g, h] = other.words;
+        RuleSet {
+            words: [a & e, b & f, c & g, d & h],
         }
-        None
+    }
+}
+
+// The numbers that are in one of them.
+impl BitOr for RuleSet {
+    type Output = RuleSet;
+
+    ghost bitor_gives = { λ s t r. (m : ℕ) → has_number r m ≡ (has_number s m || has_number t m) };
+
+    fn bitor(self, other: RuleSet) -> RuleSet {
+        let [a, b, c, d] = self.words;
+        let [e, f, g, h] = other.words;
+        RuleSet {
+            words: [a | e, b | f, c | g, d | h],
+        }
     }
 }

@@ -21,27 +21,20 @@ impl RuleTable {
     pub fn get(&self, n: u8) -> Option<RuleRow>
         ensures { result ≡ row_in n (slice_index_or self.now.slots n None) }
     {
-        let slot = self.slots[n as usize];
-        match slot {
-            Some(parts) => Some(RuleRow {
-                number: n as u32,
-                addresses: parts.addresses,
-                ports: parts.ports,
-                protocol: parts.protocol,
-            }),
-            None => None,
-        }
+        let parts = self.slots[n as usize]?;
+        Some(RuleRow {
+            number: n as u32,
+            addresses: parts.addresses,
+            ports: parts.ports,
+            protocol: parts.protocol,
+        })
     }
 
     // Whether a rule of this number stands.
     pub fn stands(&self, number: u32) -> bool
         ensures { result ≡ stands number (rows self.now.slots) }
     {
-        if number > 255 {
-            return false;
-        }
-        let slot = self.slots[number as usize];
-        slot.is_some()
+        number < 256 && self.slots[number as usize].is_some()
     }
 
     // The numbers of the standing rules.
@@ -49,8 +42,7 @@ impl RuleTable {
         ensures { members result ≡ map (λ q. q.number) (rows self.now.slots) }
     {
         let mut numbers = RuleSet::new();
-        for n in 0..256usize {
-            let slot = self.slots[n];
+        for (n, slot) in self.slots.iter().enumerate() {
             if slot.is_some() {
                 numbers = numbers.with(n as u8);
             }
@@ -83,7 +75,6 @@ impl RuleTable {
     pub fn clear(&mut self)
         ensures { rows self.new.slots ≡ [] }
     {
-        let slots = [None; 256];
-        self.slots = slots;
+        self.slots = [None; 256];
     }
 }

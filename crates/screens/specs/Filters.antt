@@ -1,5 +1,5 @@
 -- What the words of a filter say.
-use Rattle.std.specs.Prelude.{◌≡◌, ℕ, ◌/◌, ◌%◌, ◌^◌, Bool, ◌||◌, List, fold, ◌==◌, bit_or, nat_eq, slice_index, slice_set}
+use Rattle.std.specs.Prelude.{◌≡◌, ℕ, ◌/◌, ◌%◌, ◌^◌, Bool, ◌||◌, List, ◌==◌, bit_or, nat_eq, slice_index, slice_set}
 use Rattle.fields.specs.Lists.{any, all}
 use Rattle.keytables.specs.declared.key.Key.{Key}
 use Rattle.screens.specs.Places.{places_of}
@@ -19,10 +19,6 @@ marked words j = slice_set words (j / 64) (bit_or (slice_index words (j / 64)) (
 -- all four bits of a key are set
 abbrev pub has_key : List ℕ → Key → Bool
 has_key words k = all (bit_at words) (places_of k)
-
--- the words with all four bits of a key set
-abbrev pub with_key : List ℕ → Key → List ℕ
-with_key words k = fold marked words (places_of k)
 
 -- j is one of the four places of a key
 abbrev pub is_place : Key → ℕ → Bool

@@ -1,5 +1,6 @@
 -- Where a key's bits stand in a filter: at four of 32,768 places, which every number of the key moves.
 use Rattle.std.specs.Prelude.{ℕ, ◌*◌, ◌/◌, ◌%◌, ◌^◌, List, [], ◌∷◌, fold, bit_xor}
+use Rattle.keytables.specs.Keys.{numbers_of}
 use Rattle.keytables.specs.declared.key.Key.{Key}
 
 -- the upper half of a word of 64 bits laid over the lower one
@@ -14,13 +15,7 @@ stirred w = (overlaid w * 0xd6e8_feb8_6659_fd93) % 2 ^ 64
 unfoldable pub taken_in : ℕ → ℕ → ℕ
 taken_in w n = stirred (bit_xor w n)
 
--- the six numbers of a key
-unfoldable pub numbers_of : Key → List ℕ
-numbers_of k =
-    let l = k.labels in
-    k.subset ∷ l.addresses.source.place ∷ l.addresses.destination.place ∷ l.ports.source.place ∷ l.ports.destination.place ∷ l.protocol.place ∷ []
-
--- in one word, which does not begin as 0, so that a key of zeros has four places too
+-- the six numbers of a key in one word, which does not begin as 0, so that a key of zeros has four places too
 unfoldable pub mixed : Key → ℕ
 mixed k = overlaid (stirred (fold taken_in 0x9e37_79b9_7f4a_7c15 (numbers_of k)))
 

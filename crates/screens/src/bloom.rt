@@ -1,8 +1,8 @@
 // A screen of 32,768 bits.
-ghost use Rattle.std.specs.Prelude.{◌≡◌, ◌^◌, ◌<◌, replicate, IfOk, vec_len};
-ghost use Rattle.screens.specs.Filters.{bit_at, marked, has_key, with_key, Added};
+ghost use Rattle.std.specs.Prelude.{◌≡◌, ◌<◌, replicate, IfOk, vec_len};
+ghost use Rattle.screens.specs.Filters.{bit_at, marked, has_key, Added};
 
-use crate::places::{mix, place};
+use crate::places::places;
 use crate::screen::Screen;
 use keytables::key::Key;
 use std::alloc::{AllocError, Global};
@@ -14,14 +14,6 @@ const WORDS: usize = 512;
 pub struct Bloom {
     words: Vec<u64>,
     ghost sized: { vec_len words ≡ 512 },
-}
-
-// The word whose only bit is at an index.
-fn single(index: usize) -> u64
-    requires { index < 64 }
-    ensures { result ≡ 2 ^ index }
-{
-    1 << index
 }
 
 impl Bloom {
@@ -38,26 +30,16 @@ impl Bloom {
         requires { bit < 32768 }
         ensures { self.new.words.items ≡ marked self.old.words.items bit }
     {
-        self.words[bit / 64] |= single(bit % 64);
+        self.words[bit / 64] |= 1 << (bit % 64);
     }
 
     // Whether a bit is set.
+    #[tactic(auto, using(std::proofs::lemmas::Nat::and_mask), unfolding(crate::specs::Filters::bit_at, crate::specs::Filters::bit_of))]
     fn is_marked(&self, bit: usize) -> bool
         requires { bit < 32768 }
         ensures { result ≡ bit_at self.now.words.items bit }
     {
         (self.words[bit / 64] >> (bit % 64)) & 1 == 1
-    }
-
-    // Sets the four bits of a key.
-    fn mark_key(&mut self, key: Key)
-        ensures { self.new.words.items ≡ with_key self.old.words.items key }
-    {
-        let word = mix(key);
-        self.mark(place(word, 0));
-        self.mark(place(word, 1));
-        self.mark(place(word, 2));
-        self.mark(place(word, 3));
     }
 }
 
@@ -75,17 +57,16 @@ impl Screen for Bloom {
     }
 
     // Sets the four bits of the key, and leaves the others.
+    #[tactic(auto, using(crate::proofs::Listed::added_bits))]
     fn add(&mut self, key: Key)
         ensures bits { Added self.old.words.items key self.new.words.items }
     {
-        self.mark_key(key);
+        for bit in places(key) {
+            self.mark(bit);
+        }
     }
 
     fn ask(&self, key: Key) -> bool {
-        let word = mix(key);
-        self.is_marked(place(word, 0))
-            && self.is_marked(place(word, 1))
-            && self.is_marked(place(word, 2))
-            && self.is_marked(place(word, 3))
+        places(key).iter().all(|bit| self.is_marked(*bit))
     }
 }

@@ -1,4 +1,3 @@
-pub mod Stops
 pub mod Bytes
 pub mod Fine
 pub mod Rules

@@ -1,39 +1,31 @@
 -- The words of a sheet by their places: rule k has the eight from place 8 * k on.
-use Rattle.std.proofs.Common.{◌≡◌, ℕ, zero, suc, ◌+◌, ◌-◌, ◌*◌, ◌%◌, ◌<◌, ◌≤◌, cond, ◌&&◌, eqb, leb, List, length, get_or, Some, None, sym, ap, ◌∙◌, subst, inl, inr, arith}
-use Rattle.std.proofs.lemmas.Bool.{cases_lt, cond-true, cond-false, le-leb, lt-leb, eq-eqb, ne_eqb, and_left}
+use Rattle.std.proofs.Common.{◌≡◌, ℕ, zero, suc, ◌+◌, ◌-◌, ◌*◌, ◌%◌, ◌<◌, ◌≤◌, eqb, List, length, get_or, None, sym, ap, ◌∙◌, subst, arith}
+use Rattle.std.proofs.lemmas.Bool.{cond-false, ne_eqb, and_left}
 use Rattle.sheets.specs.Words.{rest}
 use Rattle.sheets.specs.Reading.{parts, at, ends, least, opening_refusal, part_refusal, word_refusal, last, rule_at}
 use Rattle.sheets.specs.declared.part.Part.TheVariants.{Protocol}
-use Rattle.sheetlaws.proofs.Stops.{Passes}
+use Rattle.sheets.proofs.Stops.{Passes}
 use Rattle.sheetlaws.proofs.Fine.{Opens, Fine, part_is, opens_from, opens_to}
 use Rattle.sheetlaws.proofs.Rules.{Eight, pattern_of, address_of, row_of}
 
 module _ (ws : List ℕ) (i : ℕ) where
   pub in_list : word_refusal ws i ≡ None → i < length ws
-  in_list h = elim (cases_lt i (length ws)) [
-    | inl l ↦ l
-    | inr l ↦ let e = cond-true (leb (length ws) i) (Some 15) (cond (eqb (i % 8) 0) (opening_refusal ws i) (part_refusal ws (get_or parts (i % 8 - 1) Protocol) i)) (le-leb _ _ l) in
-        let z : ◌≡◌ {A = ℕ} 0 1 = cc in absurd (omega arith)
-  ]
+  in_list h = grind arith
 
   -- where a rule or the end is due
   module _ (e : i % 8 ≡ 0) where
     pub due : i < length ws → word_refusal ws i ≡ opening_refusal ws i
-    due l = cond-false (leb (length ws) i) _ _ (lt-leb _ _ l) ∙ cond-true (eqb (i % 8) 0) _ _ (eq-eqb _ _ e)
+    due l = grind arith
 
     pub last_is : last ws i ≡ ends ws i
-    last_is = ap (λ b. b && ends ws i) (eq-eqb _ _ e)
+    last_is = grind arith
 
 module _ (ws : List ℕ) (k : ℕ) where
   abbrev pub window : ℕ → ℕ
   window j = get_or ws (8 * k + j) 0
 
   part_due : (j : ℕ) → j < 7 → 8 * k + suc j < length ws → word_refusal ws (8 * k + suc j) ≡ part_refusal ws (get_or parts j Protocol) (8 * k + suc j)
-  part_due j l m =
-      let e : (8 * k + suc j) % 8 - 1 ≡ j = omega arith in
-      cond-false (leb (length ws) (8 * k + suc j)) _ _ (lt-leb _ _ m) ∙
-      (cond-false (eqb ((8 * k + suc j) % 8) 0) _ _ (ne_eqb _ _ (λ z. omega arith)) ∙
-      ap (λ p. part_refusal ws (get_or parts p Protocol) (8 * k + suc j)) e)
+  part_due j l m = let e : (8 * k + suc j) % 8 - 1 ≡ j = omega arith in grind arith
 
   pub eight_from : ((j : ℕ) → j < 8 → Passes ws (8 * k + j)) → Eight (least ws (8 * k)) window
   eight_from h =

@@ -1,32 +1,25 @@
 -- Bytes that are read as rules are the sheet of these rules.
-use Rattle.std.proofs.Common.{◌≡◌, ℕ, zero, suc, ◌+◌, ◌*◌, ◌/◌, ◌%◌, ◌^◌, ◌<◌, ◌≤◌, Bool, true, false, cond, not, ◌||◌, eqb, leb, List, [], ◌∷◌, ◌++◌, map, length, drop, is_some, Some, None, Option, sym, refl, ap, ◌∙◌, subst, ap₂, arith}
+use Rattle.std.proofs.Common.{◌≡◌, ℕ, zero, suc, ◌+◌, ◌*◌, ◌/◌, ◌%◌, ◌^◌, ◌<◌, ◌≤◌, true, false, not, ◌||◌, eqb, List, [], ◌∷◌, ◌++◌, map, length, drop, is_some, None, Option, sym, refl, ap, ◌∙◌, subst, ap₂, arith}
 use Rattle.std.specs.List.{range_with_len, flat_map}
 use Rattle.std.proofs.lemmas.List.FromFn.{length-map-range_with_len}
 use Rattle.std.proofs.lemmas.List.{drop_more, drop_all}
-use Rattle.std.proofs.lemmas.Bool.{or_parts, not-false, eqb-true, leb-true, and_parts}
+use Rattle.std.proofs.lemmas.Bool.{or_parts, not-false, eqb-true, and_parts}
 use Rattle.sheets.specs.Rows.{row_refusal, or_else, rows_refusal}
 use Rattle.sheets.specs.Words.{word_bytes}
 use Rattle.sheets.specs.Format.{Sheet, rule_words, sheet_words}
-use Rattle.sheets.specs.Reading.{Verdict, accepted, at, least, word_refusal, last, stop, rule_at, rules, fault, verdict, words, words_read}
+use Rattle.sheets.specs.Reading.{accepted, at, least, word_refusal, last, stop, rule_at, rules, verdict, words, words_read}
 use Rattle.sheets.specs.declared.row.RuleRow.{RuleRow}
+use Rattle.sheets.proofs.Rows.{row_is}
 use Rattle.sheetlaws.specs.Laws.{ReadIsWritten}
-use Rattle.sheetlaws.proofs.Stops.{Passes, stops_first}
+use Rattle.sheets.proofs.Stops.{Passes, stops_first}
 use Rattle.sheetlaws.proofs.Bytes.{split, bytes_of_words}
-use Rattle.sheetlaws.proofs.Fine.{row_is, ends_from}
+use Rattle.sheetlaws.proofs.Fine.{ends_from}
 use Rattle.sheetlaws.proofs.Rules.{Eight, row_in_order, words_shown}
 use Rattle.sheetlaws.proofs.Places.{in_list, due, window, eight_from, rule_is, least_next}
 use Rattle.sheetlaws.proofs.Written.{one_list}
 
 -- ---- what was accepted passed each test
 module _ (rs : List RuleRow) where
-  where_true : (b : Bool) (v : Verdict) (n i : ℕ) → cond b v (fault n i) ≡ accepted rs → (b ≡ true) × (v ≡ accepted rs)
-  where_true true v n i h = (refl, h)
-  where_true false v n i h = let z : ◌≡◌ {A = ℕ} 0 1 = cc in absurd (omega arith)
-
-  where_false : (b : Bool) (v : Verdict) (n i : ℕ) → cond b (fault n i) v ≡ accepted rs → (b ≡ false) × (v ≡ accepted rs)
-  where_false false v n i h = (refl, h)
-  where_false true v n i h = let z : ◌≡◌ {A = ℕ} 0 1 = cc in absurd (omega arith)
-
   record Taken (ws : List ℕ) (places i : ℕ) (o : Option ℕ) : Type 0 where
     in_order : o ≡ None
     ended : i + 1 ≡ length ws
@@ -34,12 +27,7 @@ module _ (rs : List RuleRow) where
     said : rules ws (i / 8) ≡ rs
 
   taken : (ws : List ℕ) (places i : ℕ) (o : Option ℕ) → verdict ws places i o ≡ accepted rs → Taken ws places i o
-  taken ws places i (Some n) h = let z : ◌≡◌ {A = ℕ} 0 1 = cc in absurd (omega arith)
-  taken ws places i None h =
-      let t = where_true (eqb (i + 1) (length ws)) (cond (leb (i / 8) places) (accepted (rules ws (i / 8))) (fault 9 0)) 15 (i + 1) h in
-      let u = where_true (leb (i / 8) places) (accepted (rules ws (i / 8))) 9 0 t.1 in
-      let v = u.1 in
-      record { in_order = refl; ended = eqb-true _ _ t.0; room = leb-true _ _ u.0; said = cc }
+  taken ws places i o h = grind arith
 
 -- ---- words of which n rules are in order, and then the end
 module _ (ws : List ℕ) (n : ℕ) (long : 8 * n + 1 ≡ length ws) (end : at ws (8 * n) ≡ 6 * 2 ^ 29 + n) (before : (i : ℕ) → i < 8 * n → Passes ws i) where
@@ -101,7 +89,7 @@ module _ (ws : List ℕ) (rs : List RuleRow) (places : ℕ) (h : words_read ws p
 
 pub read_is_written_lem : ReadIsWritten
 read_is_written_lem bytes rs places small h =
-    let t = where_false rs (eqb (length bytes) 0 || not (eqb (length bytes % 4) 0)) (words_read (words bytes) places) 10 0 h in
+    let t : ((eqb (length bytes) 0 || not (eqb (length bytes % 4) 0)) ≡ false) × (words_read (words bytes) places ≡ accepted rs) = grind arith in
     let b = or_parts (eqb (length bytes) 0) _ t.0 in
     let w = read_words (words bytes) rs places t.1 in
     let back : flat_map word_bytes (words bytes) ≡ bytes = bytes_of_words bytes small (eqb-true _ _ (not-false (eqb (length bytes % 4) 0) b.1)) in

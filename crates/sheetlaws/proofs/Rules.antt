@@ -3,9 +3,8 @@ use Rattle.std.proofs.Common.{◌≡◌, ℕ, suc, ◌+◌, ◌*◌, ◌/◌, �
 use Rattle.std.specs.List.{range_with_len}
 use Rattle.std.proofs.lemmas.List.FromFn.{get_or-range_with_len}
 use Rattle.std.proofs.ByRecursion.{All-get_or}
-use Rattle.std.proofs.lemmas.Bool.{and_parts, leb-true, ltb-true}
 use Rattle.fields.specs.Lengths.{has, clean}
-use Rattle.sheets.specs.Words.{kind, rest, side, size, low, side_of, kind_due, side_due, bits_due, word}
+use Rattle.sheets.specs.Words.{kind, rest, side, size, low, kind_due, side_due, bits_due, word}
 use Rattle.sheets.specs.Format.{rule_words}
 use Rattle.sheets.specs.Reading.{parts}
 use Rattle.sheets.specs.declared.part.Side.{Side}
@@ -14,7 +13,8 @@ use Rattle.sheets.specs.declared.part.Part.{Part}
 use Rattle.sheets.specs.declared.part.Part.TheVariants.{Upper, Lower, Port, Protocol}
 use Rattle.sheets.specs.declared.row.PatternRow.{PatternRow}
 use Rattle.sheets.specs.declared.row.RuleRow.{RuleRow}
-use Rattle.sheetlaws.proofs.Fine.{Opens, Fine, Fits, Sound, Row}
+use Rattle.sheets.proofs.Rows.{Sound, Row}
+use Rattle.sheetlaws.proofs.Fine.{Opens, Fine, Fits}
 
 seven : (P : ℕ → Type 0) → P 0 → P 1 → P 2 → P 3 → P 4 → P 5 → P 6 → (j : ℕ) → j < 7 → P j
 seven P a b c d e f g j l =
@@ -82,15 +82,8 @@ module _ (least : ℕ) (w : ℕ → ℕ) (e : Eight least w) where
       (ap₂ ◌∷◌ (shown Protocol _ _ (e.others 6 (omega arith))) refl)))))))
 
 -- ---- from a row to words, and to the same row
-side_below : (s : Side) → side_of s < 2
-side_below Source = omega arith
-side_below Destination = omega arith
-
 bounds : (p : Part) → (side_due p < 2) × (2 ^ bits_due p ≤ 2 ^ 16)
-bounds (Upper s) = (side_below s, omega arith)
-bounds (Lower s) = (side_below s, omega arith)
-bounds (Port s) = (side_below s, omega arith)
-bounds Protocol = (omega arith, omega arith)
+bounds p = grind arith
 
 record Told (p : Part) (l n w : ℕ) : Type 0 where
   is_kind : kind w ≡ kind_due p
@@ -113,10 +106,10 @@ fine p t l n w d f = record { is_kind = d.is_kind; is_side = d.is_side; narrow =
 
 module _ (w s : ℕ) (q : PatternRow) (h : Sound w s q) where
   short : q.length.bits < 64
-  short = omega (arith, leb-true q.length.bits 32 (and_parts _ _ (and_parts _ _ h.0).1).0)
+  short = grind arith
 
   below : q.number < 2 ^ w
-  below = ltb-true _ _ (and_parts _ _ h.1).0
+  below = grind arith
 
 module _ (s : Side) (q : PatternRow) (h : Sound 32 1 q) where
   abbrev upper : ℕ

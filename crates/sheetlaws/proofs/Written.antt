@@ -1,32 +1,21 @@
 -- The sheet of rules is read as these rules.
-use Rattle.std.proofs.Common.{◌≡◌, ℕ, ◌+◌, ◌-◌, ◌*◌, ◌/◌, ◌%◌, ◌^◌, ◌<◌, ◌≤◌, true, not, ◌||◌, eqb, leb, List, [], ◌∷◌, ◌++◌, map, length, get_or, drop, is_some, Some, None, Option, sym, refl, ap, ◌∙◌, subst, ap₂, inl, inr, arith}
+use Rattle.std.proofs.Common.{◌≡◌, ℕ, ◌+◌, ◌-◌, ◌*◌, ◌/◌, ◌%◌, ◌^◌, ◌<◌, ◌≤◌, true, not, ◌||◌, eqb, leb, List, [], ◌∷◌, ◌++◌, map, length, get_or, drop, is_some, None, sym, refl, ap, ◌∙◌, subst, ap₂, inl, inr, arith}
 use mathlib.Core.Path.{fun_ext}
 use Rattle.std.specs.List.{range_with_len, flat_map}
 use Rattle.std.proofs.lemmas.List.{length-append, length-drop, get_or_at}
 use Rattle.std.proofs.lemmas.Bool.{cond-true, cond-false, or_from, or_right, not_from_true, eq-eqb, ne_eqb, le-leb, cases_lt}
-use Rattle.sheets.specs.Rows.{row_refusal, or_else, rows_refusal}
+use Rattle.sheets.specs.Rows.{row_refusal, rows_refusal}
 use Rattle.sheets.specs.Words.{word_bytes}
 use Rattle.sheets.specs.Format.{Sheet, rule_words, sheet_words}
 use Rattle.sheets.specs.Reading.{accepted, at, least, word_refusal, last, stop, rule_at, rules, verdict, words_read, sheet_read}
 use Rattle.sheets.specs.declared.row.RuleRow.{RuleRow}
+use Rattle.sheets.proofs.Rows.{row_is, neither, few}
 use Rattle.sheetlaws.specs.Laws.{WrittenIsRead}
-use Rattle.sheetlaws.proofs.Stops.{Passes, stop_is}
+use Rattle.sheets.proofs.Stops.{Passes, stop_is}
 use Rattle.sheetlaws.proofs.Bytes.{at_drop, on_drop, length_joined, length_bytes, words_of_bytes}
-use Rattle.sheetlaws.proofs.Fine.{row_is, ends_to}
+use Rattle.sheetlaws.proofs.Fine.{ends_to}
 use Rattle.sheetlaws.proofs.Rules.{Eight, row_of, eight_in_order, row_shown}
 use Rattle.sheetlaws.proofs.Places.{due, last_is, window, eight_to, rule_is, least_next}
-
-neither : (o p : Option ℕ) → or_else o p ≡ None → (o ≡ None) × (p ≡ None)
-neither (Some n) p h = let z : ◌≡◌ {A = ℕ} 0 1 = cc in absurd (omega arith)
-neither None p h = (refl, h)
-
--- ascending numbers of at most 255 are few
-few : (m : ℕ) (rs : List RuleRow) → m ≤ 256 → rows_refusal m rs ≡ None → m + length rs ≤ 256
-few m [] l h = omega arith
-few m (r ∷ rs) l h =
-    let t = neither (row_refusal m r) _ h in
-    let f = (row_is m r).0 t.0 in
-    omega (arith, f.small, f.above, few (r.number + 1) rs (omega (arith, f.small)) t.1)
 
 module _ (P : ℕ → Type 0) where
   -- eight more places

@@ -1,8 +1,8 @@
 -- The laws of the format, above what reading and writing do.
-use Rattle.std.specs.Prelude.{◌≡◌, ℕ, ◌<◌, ◌≤◌, true, false, ◌||◌, List, length, is_some, None}
+use Rattle.std.specs.Prelude.{◌≡◌, ℕ, ◌<◌, ◌≤◌, List, length}
 use Rattle.std.specs.List.{AllByRecursion}
 use Rattle.sheets.specs.Format.{Sheet}
-use Rattle.sheets.specs.Reading.{accepted, sheet_read, word_refusal, last, stop}
+use Rattle.sheets.specs.Reading.{accepted, sheet_read, stop, StopsAt}
 use Rattle.sheets.specs.declared.row.RuleRow.{RuleRow}
 
 -- the sheet of a rule list is read as these rules, wherever they have places
@@ -20,9 +20,5 @@ ReadIsWritten =
     (bytes : List ℕ) (rs : List RuleRow) (places : ℕ) → AllByRecursion (λ b. b < 256) bytes → sheet_read bytes places ≡ accepted rs → ReadAs bytes rs places
 
 -- reading stops at the first word that is out of order or ends the sheet
-pub record StopsAt (ws : List ℕ) (i : ℕ) : Type 0 where
-  pub there : (is_some (word_refusal ws i) || last ws i) ≡ true
-  pub before : (k : ℕ) → k < i → (word_refusal ws k ≡ None) × (last ws k ≡ false)
-
 abbrev pub StopsFirst : Type 0
 StopsFirst = (ws : List ℕ) → StopsAt ws (stop ws 0 (length ws))

@@ -4,22 +4,16 @@
 ghost use Rattle.sheetlaws.specs.Laws.{WrittenIsRead, ReadIsWritten, StopsFirst};
 
 // A written sheet reads back as the same rules.
-pub fn written_is_read() -> u8
+pub fn written_is_read()
     ensures { WrittenIsRead }
-{
-    0
-}
+{}
 
 // An accepted sheet, written again, has the same bytes.
-pub fn read_is_written() -> u8
+pub fn read_is_written()
     ensures { ReadIsWritten }
-{
-    0
-}
+{}
 
 // A fault is the first of its sheet.
-pub fn stops_first() -> u8
+pub fn stops_first()
     ensures { StopsFirst }
-{
-    0
-}
+{}

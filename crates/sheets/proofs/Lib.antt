@@ -1,1 +1,4 @@
+pub mod Patterns
+pub mod Rows
+pub mod Stops
 pub mod Verdicts

@@ -18,8 +18,8 @@ taken (accepted rs) n before after a l =
       within = omega (arith, ap length l ∙ length-append rs (drop (length rs) before));
       rules = ap accepted (sym (ap (take n) l ∙ take_at rs (drop (length rs) before) n (sym e)));
     }
-taken (refused k i y) n before after (f, e, _, _, _) l = let z : ◌≡◌ {A = ℕ} 0 1 = cc in absurd (omega arith)
+taken (refused k i y) n before after (f, e, _, _, _) l = absurd (cc)
 
 pub faulted : (v : Verdict) (f : Fault) → Answers v (Err f) → v ≡ refused (code f.refusal) f.place f.layer
-faulted (accepted rs) f a = let z : ◌≡◌ {A = ℕ} 0 1 = cc in absurd (omega arith)
+faulted (accepted rs) f a = absurd (cc)
 faulted (refused n i l) f (g, e, a, b, d) = let h : f ≡ g = cc in cc

@@ -1,5 +1,6 @@
 pub mod Faults
 pub mod Rows
+pub mod Kinds
 pub mod Words
 pub mod Format
 pub mod Reading

@@ -1,5 +1,5 @@
 -- What a sheet of any bytes is read as: its rules, or its first fault.
-use Rattle.std.specs.Prelude.{◌≡◌, ℕ, zero, suc, ◌+◌, ◌-◌, ◌*◌, ◌/◌, ◌%◌, ◌^◌, Bool, false, cond, not, ◌&&◌, ◌||◌, List, [], ◌∷◌, ◌++◌, map, length, drop, is_some, Some, None, Ok, Err, Option, Result, ◌==◌, nat_le, nat_lt, slice_index, slice_index_or}
+use Rattle.std.specs.Prelude.{◌≡◌, ℕ, zero, suc, ◌+◌, ◌-◌, ◌*◌, ◌/◌, ◌%◌, ◌^◌, ◌<◌, Bool, true, false, cond, not, ◌&&◌, ◌||◌, List, [], ◌∷◌, ◌++◌, map, length, drop, is_some, Some, None, Ok, Err, Option, Result, ◌==◌, nat_le, nat_lt, slice_index, slice_index_or}
 use Rattle.std.specs.List.{range_with_len}
 use Rattle.fields.specs.Lengths.{has, clean}
 use Rattle.fields.specs.Refusals.{first, code}
@@ -81,6 +81,11 @@ module _ (ws : List ℕ) where
   abbrev pub stop : ℕ → ℕ → ℕ
   stop i zero = i
   stop i (suc n) = cond (is_some (word_refusal i) || last i) i (stop (i + 1) n)
+
+  -- place i is the first where a word is out of order or ends the sheet
+  pub record StopsAt (i : ℕ) : Type 0 where
+    pub there : (is_some (word_refusal i) || last i) ≡ true
+    pub before : (k : ℕ) → k < i → (word_refusal k ≡ None) × (last k ≡ false)
 
   -- ---- the rule whose words begin at place i
   abbrev pub pattern_at : ℕ → PatternRow

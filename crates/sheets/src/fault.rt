@@ -37,3 +37,12 @@ impl Fault {
         }
     }
 }
+
+// A call that has no place to name refuses as the fault does.
+impl From<Fault> for Refusal {
+    ghost from_gives = { λ f e. e ≡ f.refusal };
+
+    fn from(fault: Fault) -> Refusal {
+        fault.refusal
+    }
+}

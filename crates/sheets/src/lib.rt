@@ -6,10 +6,9 @@ ghost use Rattle.sheets.specs.Example.{Worked};
 pub mod fault;
 pub mod part;
 pub mod row;
+pub mod word;
 
 // The worked sheet, and damaged ones, by computing.
-pub fn worked_sheet() -> u8
+pub fn worked_sheet()
     ensures { Worked }
-{
-    0
-}
+{}

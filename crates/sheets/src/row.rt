@@ -3,13 +3,13 @@ use fields::numbers::PrefixLength;
 use fields::sides::Sides;
 
 // What a rule asks of one field.
-#[derive(Clone, Copy, PartialEq, Eq, Debug)]
+#[derive(Clone, Copy, PartialEq, Eq, Default, Debug)]
 pub struct PatternRow {
     pub length: PrefixLength,
     pub number: u32,
 }
 
-#[derive(Clone, Copy, PartialEq, Eq, Debug)]
+#[derive(Clone, Copy, PartialEq, Eq, Default, Debug)]
 pub struct RuleRow {
     pub number: u32,
     pub addresses: Sides<PatternRow>,

@@ -23,6 +23,7 @@ impl Drawn for u16 {
     }
 }
 
+// A call is data and no closure, since two finders are given the same.
 #[derive(Clone, Copy)]
 enum Call<P, V> {
     Clear,
@@ -87,10 +88,7 @@ fn draw_pattern<K: FieldKind>(random: &mut Xorshift, longest: u8) -> K::Pattern 
     let first = random.sparse().checked_shr(u32::from(beyond)).unwrap_or(0);
     let rest = K::field_width().saturating_sub(bits);
     let number = first.checked_shl(u32::from(rest)).unwrap_or(0);
-    match K::make(PrefixLength { bits }, number) {
-        Ok(pattern) => pattern,
-        Err(_) => K::whole(),
-    }
+    K::make(PrefixLength { bits }, number).unwrap_or(K::whole())
 }
 
 // A label; some are never held, and a few are large.
@@ -151,7 +149,7 @@ where
     A::Value: Drawn,
 {
     let mut random = Xorshift::new(sequence.seed);
-    let mut report = Report::new();
+    let mut report = Report::default();
     let mut held = 0;
     one.clear();
     other.clear();

@@ -9,7 +9,7 @@ pub enum Outcome {
     Refused,
 }
 
-#[derive(Clone, Copy)]
+#[derive(Clone, Copy, Default)]
 pub struct Report {
     calls: u32,
     found: u32,
@@ -18,15 +18,6 @@ pub struct Report {
 }
 
 impl Report {
-    pub fn new() -> Report {
-        Report {
-            calls: 0,
-            found: 0,
-            refused: 0,
-            differ: 0,
-        }
-    }
-
     // Counts a call that both answered the same, or not.
     pub fn count(&mut self, outcome: Outcome, same: bool) {
         self.calls = self.calls.saturating_add(1);

@@ -14,6 +14,7 @@ const SPACE: KeySpace = KeySpace {
     step: 17711,
 };
 
+// A call is data and no closure, since two tables are given the same.
 #[derive(Clone, Copy)]
 enum Call {
     Clear,
@@ -87,12 +88,13 @@ fn ask<T: KeyTable>(table: &mut T, call: Call) -> Answer
     }
 }
 
+// Beside the one for finders, with which it shares no line but the loop's: other calls are drawn, and the tallies are compared too.
 // Makes every call of a sequence to both tables, and looks at the tallies after each.
 pub fn compare<A: KeyTable, B: KeyTable>(one: &mut A, other: &mut B, sequence: Sequence) -> Report
     ensures one { A.KeyTable.ready one.new }
 {
     let mut random = Xorshift::new(sequence.seed);
-    let mut report = Report::new();
+    let mut report = Report::default();
     one.clear();
     other.clear();
     for _ in 0..sequence.calls {

@@ -1,14 +1,16 @@
 // Rules and faults as people read them.
 #![tactic(auto)]
 
-ghost use Rattle.std.specs.Prelude.{Some};
+ghost use Rattle.std.specs.Prelude.{◌≡◌, Some};
 ghost use Rattle.fields.specs.Refusals.{code};
+ghost use Rattle.texts.specs.declared.notation.Notation.TheVariants.{Dotted, Plain};
 ghost use Rattle.texts.specs.Text.{address_text, pattern_text, rule_text, layer_text, fault_text};
 
 use notation::Notation;
 use sheets::fault::{Fault, Layer};
 use sheets::row::{PatternRow, RuleRow};
 use std::fmt;
+use std::net::Ipv4Addr;
 
 pub mod lines;
 pub mod notation;
@@ -21,8 +23,8 @@ impl fmt::Display for AddressText {
     ghost output = { λ a. Some (address_text a.0) };
 
     fn fmt<W: fmt::Write>(&self, f: &mut fmt::Formatter<W>) -> fmt::Result {
-        let [a, b, c, d] = self.0.to_be_bytes();
-        write!(f, "{a}.{b}.{c}.{d}")
+        let address = Ipv4Addr::from(self.0);
+        write!(f, "{address}")
     }
 }
 
@@ -31,6 +33,28 @@ impl fmt::Display for AddressText {
 pub struct PatternText {
     pub row: PatternRow,
     pub notation: Notation,
+}
+
+impl PatternText {
+    // An address pattern, as in 10.0.0.0/8.
+    fn dotted(row: PatternRow) -> PatternText
+        ensures { result ≡ record { row = row; notation = Dotted } }
+    {
+        PatternText {
+            row,
+            notation: Notation::Dotted,
+        }
+    }
+
+    // A port's or a protocol's pattern, as in 5004/16.
+    fn plain(row: PatternRow) -> PatternText
+        ensures { result ≡ record { row = row; notation = Plain } }
+    {
+        PatternText {
+            row,
+            notation: Notation::Plain,
+        }
+    }
 }
 
 impl fmt::Display for PatternText {
@@ -62,26 +86,11 @@ impl fmt::Display for RuleText {
     fn fmt<W: fmt::Write>(&self, f: &mut fmt::Formatter<W>) -> fmt::Result {
         let rule = self.0;
         let number = rule.number;
-        let source = PatternText {
-            row: rule.addresses.source,
-            notation: Notation::Dotted,
-        };
-        let destination = PatternText {
-            row: rule.addresses.destination,
-            notation: Notation::Dotted,
-        };
-        let source_port = PatternText {
-            row: rule.ports.source,
-            notation: Notation::Plain,
-        };
-        let destination_port = PatternText {
-            row: rule.ports.destination,
-            notation: Notation::Plain,
-        };
-        let protocol = PatternText {
-            row: rule.protocol,
-            notation: Notation::Plain,
-        };
+        let source = PatternText::dotted(rule.addresses.source);
+        let destination = PatternText::dotted(rule.addresses.destination);
+        let source_port = PatternText::plain(rule.ports.source);
+        let destination_port = PatternText::plain(rule.ports.destination);
+        let protocol = PatternText::plain(rule.protocol);
         write!(
             f,
             "{number}: {source} {destination} {source_port} {destination_port} {protocol}"
@@ -112,9 +121,9 @@ impl fmt::Display for FaultText {
     ghost output = { λ t. Some (fault_text (code t.0.refusal) t.0.place t.0.layer) };
 
     fn fmt<W: fmt::Write>(&self, f: &mut fmt::Formatter<W>) -> fmt::Result {
-        let number = self.0.refusal.number();
+        let refusal = self.0.refusal;
         let place = self.0.place;
         let layer = LayerText(self.0.layer);
-        write!(f, "refused {number} at word {place}, layer {layer}")
+        write!(f, "{refusal} at word {place}, layer {layer}")
     }
 }

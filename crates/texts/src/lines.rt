@@ -19,10 +19,7 @@ pub fn rules_lines(heap: Global, rules: &[RuleRow]) -> Result<String, Refusal>
     let mut text = String::new(heap);
     for rule in rules {
         let rule = RuleText(*rule);
-        match writeln!(text, "{rule}") {
-            Ok(()) => {}
-            Err(_) => return Err(Refusal::Memory),
-        }
+        writeln!(text, "{rule}")?;
     }
     Ok(text)
 }
@@ -34,8 +31,6 @@ pub fn fault_line(heap: Global, fault: Fault) -> Result<String, Refusal>
 {
     let mut text = String::new(heap);
     let fault = FaultText(fault);
-    match writeln!(text, "{fault}") {
-        Ok(()) => Ok(text),
-        Err(_) => Err(Refusal::Memory),
-    }
+    writeln!(text, "{fault}")?;
+    Ok(text)
 }

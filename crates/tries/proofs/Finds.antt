@@ -1,12 +1,12 @@
 -- What a trie that is ready answers.
-use Rattle.std.proofs.Common.{◌≡◌, ℕ, ◌-◌, ◌<◌, ◌≤◌, Bool, true, false, List, length, get_or, take, Some, None, Option, sym, refl, ap, ◌∙◌, subst, ⊎_elim, arith}
+use Rattle.std.proofs.Common.{◌≡◌, ℕ, ◌-◌, ◌<◌, ◌≤◌, Bool, true, List, length, get_or, take, Some, None, Option, sym, refl, ap, ◌∙◌, subst, ⊎_elim, arith}
 use Rattle.std.proofs.lemmas.List.{length-take, length-take-le, take_all, take-take}
-use Rattle.std.proofs.lemmas.Bool.{and_parts, and_from, not-true, not_from_false, both_ways, cases_Bool, cases_lt}
+use Rattle.std.proofs.lemmas.Bool.{and_parts, and_from, not-true, not_from_false, both_ways, cases_lt, false_from_ne_true}
 use Rattle.std.specs.List.{slice_get}
 use Rattle.levels.specs.Levels.{same, around}
 use Rattle.finders.specs.Finding.{label_place, known, best_label, parent_label}
 use Rattle.fields.specs.declared.numbers.Label.{Label}
-use Rattle.finders.proofs.Placed.{place_none, place_at}
+use Rattle.finders.proofs.Placed.{position_none, position_at}
 use Rattle.finders.proofs.Nearest.{Near, Nearest, nearest_all, parent_is}
 use Rattle.tries.specs.Nodes.{look, deepest}
 use Rattle.tries.specs.Ready.{Ready}
@@ -37,20 +37,14 @@ module _ {P V : Type 0} (s : Spelling P V) (nodes : List Node) (held : List P) (
           let h = r.named (s.path p) k e in
           let is : at k ≡ p = s.one (at k) p h.1 in
           let self : same s.nest.within p (at k) ≡ true = subst (λ q. same s.nest.within p q ≡ true) (sym is) (and_from _ _ (s.nest.reflexive p) (s.nest.reflexive p)) in
-          sym (place_at (same s.nest.within p) s.nest.whole held k h.0 self (λ j l. ⊎_elim
-          (λ (y : same s.nest.within p (at j) ≡ true).
+          sym (position_at (same s.nest.within p) s.nest.whole held k h.0 self (λ j l. false_from_ne_true _ (λ y.
           let b = and_parts (s.nest.within p (at j)) _ y in
-          absurd (omega (arith, apart j k (omega (arith, h.0)) h.0 (sym (s.nest.antisymmetric p (at j) b.0 b.1) ∙ sym is))))
-          (λ (y : same s.nest.within p (at j) ≡ false). y)
-          (cases_Bool (same s.nest.within p (at j)))))
-      go None e = sym (place_none (same s.nest.within p) s.nest.whole held (λ j l. ⊎_elim
-          (λ (y : same s.nest.within p (at j) ≡ true).
-          let b = and_parts _ _ y in
+          omega (arith, apart j k (omega (arith, h.0)) h.0 (sym (s.nest.antisymmetric p (at j) b.0 b.1) ∙ sym is)))))
+      go None e = sym (position_none (same s.nest.within p) s.nest.whole held (λ j l. false_from_ne_true _ (λ y.
+          let b = and_parts (s.nest.within p (at j)) _ y in
           let x = r.there j l in
-          let q : label_place (look nodes 0 (s.path p)) ≡ label_place (look nodes 0 (s.path (at j))) = ap (λ p. label_place (look nodes 0 (s.path p))) (s.nest.antisymmetric p (at j) b.0 b.1) in
-          let z : ◌≡◌ {A = ℕ} 0 1 = cc in absurd (omega arith))
-          (λ (y : same s.nest.within p (at j) ≡ false). y)
-          (cases_Bool (same s.nest.within p (at j)))))
+          let q = s.nest.antisymmetric p (at j) b.0 b.1 in
+          cc)))
 
   pub known_is : (p : P) (bs : List Bool) → bs ≡ s.path p → (o : Option Label) → o ≡ look nodes 0 bs → label_place o ≡ known s.nest held p
   known_is p bs eb o eo = ap label_place (eo ∙ ap (look nodes 0) eb) ∙ path_known p
@@ -65,7 +59,7 @@ module _ {P V : Type 0} (s : Spelling P V) (nodes : List Node) (held : List P) (
     not_none j n l y e o =
         let x = labelled j l y in
         let a : label_place (look nodes 0 (take (length (s.path (at j))) way)) ≡ None = ap (λ (m : ℕ). label_place (look nodes 0 (take m way))) (sym e) ∙ ap label_place o in
-        let z : ◌≡◌ {A = ℕ} 0 1 = cc in omega arith
+        cc
 
     near : (l : Label) (n : ℕ) → Longest nodes 0 way l n → Near s.nest held t (length held) l.place
     near l n d =
@@ -83,18 +77,12 @@ module _ {P V : Type 0} (s : Spelling P V) (nodes : List Node) (held : List P) (
           low = h.0;
           passes = passes (at k) (record { short = omega (arith, d.short); first = h.1 ∙ ap (λ (m : ℕ). take m way) (sym long) });
           inner = inner;
-          first = λ j lt y. ⊎_elim
-              (λ (x : s.nest.within (at j) (at k) ≡ true). absurd (omega (arith, apart j k (omega (arith, h.0)) h.0 (s.nest.antisymmetric (at j) (at k) x (inner j (omega (arith, h.0)) y)))))
-              (λ (x : s.nest.within (at j) (at k) ≡ false). x)
-              (cases_Bool (s.nest.within (at j) (at k)));
+          first = λ j lt y. false_from_ne_true _ (λ x. omega (arith, apart j k (omega (arith, h.0)) h.0 (s.nest.antisymmetric (at j) (at k) x (inner j (omega (arith, h.0)) y))));
         }
 
     deep_nearest : (o : Option Label) → Deepest nodes 0 way o → Nearest s.nest held t (length held) (label_place o)
     deep_nearest (Some l) d = near l d.0 d.1
-    deep_nearest None d = λ j l. ⊎_elim
-        (λ (y : t (at j) ≡ true). absurd (not_none j (length (s.path (at j))) l y refl (d (length (s.path (at j))) (fronts (at j) y).short)))
-        (λ (y : t (at j) ≡ false). y)
-        (cases_Bool (t (at j)))
+    deep_nearest None d = λ j l. false_from_ne_true _ (λ y. not_none j (length (s.path (at j))) l y refl (d (length (s.path (at j))) (fronts (at j) y).short))
 
     pub nearest_is : Nearest s.nest held t (length held) (label_place (deepest nodes 0 way))
     nearest_is = deep_nearest (deepest nodes 0 way) (deep_is nodes 0 way)
@@ -132,16 +120,10 @@ module _ {P V : Type 0} (s : Spelling P V) (nodes : List Node) (held : List P) (
         (λ q f.
         let l : length (s.path q) ≤ m = omega (arith, f.short) in
         let w = s.covers p q (f.first ∙ take-take (length (s.path q)) m (s.path p) l) in
-        and_from _ _ w (not_from_false _ (⊎_elim
-        (λ (x : s.nest.within q p ≡ true). let n = ap length (s.covered q p x) ∙ length-take (length (s.path p)) (s.path q) in absurd (omega arith))
-        (λ (x : s.nest.within q p ≡ false). x)
-        (cases_Bool (s.nest.within q p)))))
+        and_from _ _ w (not_from_false _ (false_from_ne_true _ (λ x. let n = ap length (s.covered q p x) ∙ length-take (length (s.path p)) (s.path q) in omega arith))))
 
     none_above : length (s.path p) ≡ 0 → Nearest s.nest held (around s.nest.within p) (length held) None
-    none_above e = λ j l. ⊎_elim
-        (λ (y : around s.nest.within p (at j) ≡ true). absurd (omega (arith, fewer (at j) y)))
-        (λ (y : around s.nest.within p (at j) ≡ false). y)
-        (cases_Bool (around s.nest.within p (at j)))
+    none_above e = λ j l. false_from_ne_true _ (λ y. omega (arith, fewer (at j) y))
 
     -- where p is the pattern of a label, whose path is given
     module _ (l : ℕ) (e : Some p ≡ slice_get held l) (path : BitPath) (ep : bits path ≡ s.path p) (o : Option Label) where

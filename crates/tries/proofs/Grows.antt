@@ -1,209 +1,195 @@
 -- What a new node and a new label leave.
-use Rattle.std.proofs.Common.{◌≡◌, ℕ, zero, suc, ◌+◌, ◌<◌, ◌≤◌, Bool, true, false, cond, eqb, ◌⊎◌, List, [], ◌∷◌, ◌++◌, length, get_or, take, Some, None, sym, refl, ap, ◌∙◌, subst, inl, inr, ⊎_elim, arith}
-use Rattle.std.proofs.lemmas.List.{append-nil, append_assoc, get_or_past, take_more, take_all}
-use Rattle.std.proofs.lemmas.Bool.{cases_lt, cases_eq, eq-eqb, ne_eqb, eqb-false, cond-true, cond-false}
+use Rattle.std.proofs.Common.{◌≡◌, ◌≢◌, ℕ, zero, suc, ◌<◌, ◌≤◌, Bool, true, false, ◌⊎◌, List, [], ◌∷◌, ◌++◌, length, get_or, set, Some, None, Option, option_and_then, sym, refl, ap, ◌∙◌, subst, inl, inr, ⊎_elim, arith}
+use Rattle.std.proofs.lemmas.List.{append-nil, append_assoc, length_push, length-set, get_or_append_left, get_or_read}
+use Rattle.std.proofs.Math.Logic.{∥∥₁_map}
+use Rattle.std.proofs.lemmas.Bool.{cases_lt}
+use Rattle.std.proofs.lemmas.Option.{none-some, same_Some}
 use Rattle.fields.specs.declared.numbers.Label.{Label}
-use Rattle.tries.specs.Nodes.{no_node, kid, tag, look, grown, marked, Leads, Tree, Reached}
+use Rattle.tries.specs.Nodes.{no_node, kid, tag, look, turned, grown, marked, Leads, Tree}
 use Rattle.tries.specs.declared.node.Node.{Node}
-use Rattle.tries.proofs.Writes.{Grown, Tagged, grows, marks}
+use Rattle.tries.proofs.Writes.{Grown, Tagged, grows, marks, kept_kids, same_place, past_kid, past_tag}
 
--- past the nodes there is nothing
-past_kid : (nodes : List Node) (i : ℕ) (b : Bool) → length nodes ≤ i → kid nodes i b ≡ 0
-unfolding kid
-past_kid nodes i b l = go b (get_or_past nodes i no_node l)
-  where
-    go : (c : Bool) → get_or nodes i no_node ≡ no_node → cond c (get_or nodes i no_node).one (get_or nodes i no_node).zero ≡ 0
-    go true e = ap (λ (n : Node). n.one) e
-    go false e = ap (λ (n : Node). n.zero) e
+-- the same is done with what is there
+same_on : {A B : Type 0} (f g : A → Option B) (o : Option A) → ((x : A) → o ≡ Some x → f x ≡ g x) → option_and_then f o ≡ option_and_then g o
+same_on f g None h = refl
+same_on f g (Some x) h = h x refl
 
-past_tag : (nodes : List Node) (i : ℕ) → length nodes ≤ i → tag nodes i ≡ None
-unfolding tag
-past_tag nodes i l = ap (λ (n : Node). n.label) (get_or_past nodes i no_node l)
+module _ (nodes : List Node) where
+  -- one bit further on
+  pub leads_push : (i : ℕ) (bs : List Bool) (e : ℕ) (b : Bool) (k : ℕ) → Leads nodes i bs e → kid nodes e b ≡ Some k → Leads nodes i (bs ++ b ∷ []) k
+  leads_push i [] e b k l h = (k, ap (λ j. kid nodes j b) l ∙ h, refl)
+  leads_push i (c ∷ bs) e b k l h = (l.0, l.1, leads_push l.0 bs e b k l.2 h)
 
-kid_within : (nodes : List Node) (i : ℕ) (b : Bool) → 0 < kid nodes i b → i < length nodes
-kid_within nodes i b h = ⊎_elim (λ (l : i < length nodes). l) (λ (l : length nodes ≤ i). absurd (omega (arith, past_kid nodes i b l))) (cases_lt i (length nodes))
+  pub leads_low : Tree nodes → (i : ℕ) (bs : List Bool) (e : ℕ) → i < length nodes → Leads nodes i bs e → e < length nodes
+  leads_low t i [] e h l = subst (λ j. j < length nodes) l h
+  leads_low t i (b ∷ bs) e h l = leads_low t l.0 bs e (t.low i b l.0 l.1) l.2
 
-leads_more : (nodes more : List Node) → ((i : ℕ) (c : Bool) → 0 < kid nodes i c → kid more i c ≡ kid nodes i c) → (i : ℕ) (bs : List Bool) (e : ℕ) → Leads nodes i bs e → Leads more i bs e
-leads_more nodes more f i [] e l = l
-leads_more nodes more f i (b ∷ bs) e l =
-    let r = f i b l.0 in
-    (subst (λ (j : ℕ). 0 < j) (sym r) l.0, subst (λ (j : ℕ). Leads more j bs e) (sym r) (leads_more nodes more f (kid nodes i b) bs e l.1))
+  pub leads_look : (i : ℕ) (bs : List Bool) (e : ℕ) → Leads nodes i bs e → look nodes i bs ≡ tag nodes e
+  leads_look i [] e l = ap (tag nodes) l
+  leads_look i (b ∷ bs) e l = ap (option_and_then (λ k. look nodes k bs)) l.1 ∙ leads_look l.0 bs e l.2
 
-leads_push : (nodes : List Node) (i : ℕ) (bs : List Bool) (e : ℕ) (b : Bool) → Leads nodes i bs e → 0 < kid nodes e b → Leads nodes i (bs ++ b ∷ []) (kid nodes e b)
-leads_push nodes i [] e b l h = subst (λ (x : ℕ). (0 < kid nodes x b) × (kid nodes x b ≡ kid nodes e b)) (sym l) (h, refl)
-leads_push nodes i (c ∷ bs) e b l h = (l.0, leads_push nodes (kid nodes i c) bs e b l.1 h)
+-- what is further on stays so
+leads_kept : (nodes more : List Node) → ((i : ℕ) (c : Bool) (k : ℕ) → kid nodes i c ≡ Some k → kid more i c ≡ Some k) → (i : ℕ) (bs : List Bool) (e : ℕ) → Leads nodes i bs e → Leads more i bs e
+leads_kept nodes more f i [] e l = l
+leads_kept nodes more f i (b ∷ bs) e l = (l.0, f i b l.0 l.1, leads_kept nodes more f l.0 bs e l.2)
 
-leads_look : (nodes : List Node) (i : ℕ) (bs : List Bool) (e : ℕ) → Leads nodes i bs e → look nodes i bs ≡ tag nodes e
-leads_look nodes i [] e l = ap (tag nodes) l
-leads_look nodes i (b ∷ bs) e l =
-    let s : (kid nodes i b ≡ 0 → ⊥) = λ z. omega (arith, l.0) in
-    cond-false (eqb (kid nodes i b) 0) None (look nodes (kid nodes i b) bs) (ne_eqb (kid nodes i b) 0 s) ∙ leads_look nodes (kid nodes i b) bs e l.1
+module _ (nodes more : List Node) (n : ℕ) (b : Bool) (l : n < length nodes) (z : kid nodes n b ≡ None) (g : Grown nodes more n b) where
+  new_kid : (i : ℕ) (c : Bool) → (i ≡ n) × (c ≡ b) → kid more i c ≡ Some (length nodes)
+  new_kid i c q = ap (λ j. kid more j c) q.0 ∙ ap (kid more n) q.1 ∙ g.new
 
-leads_path : (nodes : List Node) (t : Tree nodes) (i : ℕ) (bs : List Bool) (e : ℕ) → Leads nodes i bs e → t.paths e ≡ t.paths i ++ bs
-leads_path nodes t i [] e l = ap t.paths (sym l) ∙ sym (append-nil (t.paths i))
-leads_path nodes t i (b ∷ bs) e l =
-    leads_path nodes t (kid nodes i b) bs e l.1 ∙ ap (λ (p : List Bool). p ++ bs) (t.kids i b l.0) ∙ append_assoc (t.paths i) (b ∷ []) bs
+  no_kid : (i : ℕ) (c : Bool) → (i ≡ n) × (c ≡ b) → kid nodes i c ≡ None
+  no_kid i c q = ap (λ j. kid nodes j c) q.0 ∙ ap (kid nodes n) q.1 ∙ z
 
-pub same_bit : (b c : Bool) → (c ≡ b) ⊎ (c ≡ b → ⊥)
-same_bit true true = inl refl
-same_bit false false = inl refl
-same_bit true false = inr (λ e. let z : ◌≡◌ {A = ℕ} 0 1 = cc in omega arith)
-same_bit false true = inr (λ e. let z : ◌≡◌ {A = ℕ} 0 1 = cc in omega arith)
+  kept_kid : (i : ℕ) (c : Bool) (k : ℕ) → kid nodes i c ≡ Some k → kid more i c ≡ Some k
+  kept_kid i c k y = g.old i c (λ p q. none-some k (sym (no_kid i c (p, q)) ∙ y)) ∙ y
 
-same_place : (i n : ℕ) (b c : Bool) → ((i ≡ n) × (c ≡ b)) ⊎ (i ≡ n → c ≡ b → ⊥)
-same_place i n b c = ⊎_elim (λ (p : i ≡ n). ⊎_elim (λ (q : c ≡ b). inl (p, q)) (λ (q : c ≡ b → ⊥). inr (λ _ r. q r)) (same_bit b c)) (λ (p : i ≡ n → ⊥). inr (λ r _. p r)) (cases_eq i n)
+  new_end : (c : Bool) → kid more (length nodes) c ≡ None
+  new_end c = g.old (length nodes) c (λ q. absurd (omega arith)) ∙ past_kid nodes (length nodes) c (omega arith)
 
--- the paths with one more
-abbrev with : (ℕ → List Bool) → ℕ → List Bool → ℕ → List Bool
-with f m x j = cond (eqb j m) x (f j)
+  end_new : (k : ℕ) (cs : List Bool) (e : ℕ) → k ≡ length nodes → Leads more k cs e → (cs ≡ []) × (e ≡ length nodes)
+  end_new k [] e q y = (refl, sym y ∙ q)
+  end_new k (c ∷ cs) e q y = absurd (none-some y.0 (sym (new_end c) ∙ ap (λ j. kid more j c) (sym q) ∙ y.1))
 
-with_new : (f : ℕ → List Bool) (m : ℕ) (x : List Bool) (j : ℕ) → j ≡ m → with f m x j ≡ x
-with_new f m x j e = cond-true (eqb j m) x (f j) (eq-eqb j m e)
+  -- a way over the nodes there were, or one that ends at the new one
+  abbrev Ends : ℕ → List Bool → ℕ → Type 0
+  Ends i bs e = (cs : List Bool) × (bs ≡ cs ++ b ∷ []) × Leads nodes i cs n × (e ≡ length nodes)
 
-with_old : (f : ℕ → List Bool) (m : ℕ) (x : List Bool) (j : ℕ) → j < m → with f m x j ≡ f j
-with_old f m x j l = cond-false (eqb j m) x (f j) (ne_eqb j m (λ e. omega arith))
+  ways : Tree nodes → (i : ℕ) (bs : List Bool) (e : ℕ) → i < length nodes → Leads more i bs e → Leads nodes i bs e ⊎ Ends i bs e
+  ways t i [] e h y = inl y
+  ways t i (c ∷ cs) e h y = ⊎_elim
+      (λ (q : (i ≡ n) × (c ≡ b)).
+      let w = end_new y.0 cs e (same_Some _ _ (sym y.1 ∙ new_kid i c q)) y.2 in
+      inr ([], cc, q.0, w.1))
+      (λ (q : i ≡ n → c ≢ b).
+      let k = sym (g.old i c q) ∙ y.1 in
+      ⊎_elim
+      (λ (w : Leads nodes y.0 cs e). inl (y.0, k, w))
+      (λ (w : Ends y.0 cs e). inr (c ∷ w.0, ap (λ ds. c ∷ ds) w.1, (y.0, k, w.2), w.3))
+      (ways t y.0 cs e (t.low i c y.0 k) y.2))
+      (same_place i n b c)
 
-module _ (nodes more : List Node) (n : ℕ) (b : Bool) (l : n < length nodes) (z : kid nodes n b ≡ 0) (g : Grown nodes more n b) where
-  kept_kid : (i : ℕ) (c : Bool) → 0 < kid nodes i c → kid more i c ≡ kid nodes i c
-  kept_kid i c y = g.old i c (λ q r. omega (arith, ap (λ (j : ℕ). kid nodes j c) q, ap (λ (d : Bool). kid nodes n d) r))
-
-  new_kid : (i : ℕ) (c : Bool) → (i ≡ n) × (c ≡ b) → kid more i c ≡ length nodes
-  new_kid i c q = ap (λ (j : ℕ). kid more j c) q.0 ∙ ap (λ (d : Bool). kid more n d) q.1 ∙ g.new
+  one_end : Tree nodes → (bs cs : List Bool) (e : ℕ) → Leads nodes 0 bs e ⊎ Ends 0 bs e → Leads nodes 0 cs e ⊎ Ends 0 cs e → bs ≡ cs
+  one_end t bs cs e (inl x) (inl y) = t.one_way bs cs e x y
+  one_end t bs cs e (inl x) (inr y) = absurd (omega (arith, leads_low nodes t 0 bs e t.rooted x, y.3))
+  one_end t bs cs e (inr x) (inl y) = absurd (omega (arith, leads_low nodes t 0 cs e t.rooted y, x.3))
+  one_end t bs cs e (inr x) (inr y) = let d = t.one_way x.0 y.0 n x.2 y.2 in cc
 
   tree_grown : Tree nodes → Tree more
-  tree_grown t =
-      let m = length nodes in
-      let p = t.paths n ++ b ∷ [] in
-      record {
-        paths = with t.paths m p;
-        rooted = omega (arith, g.long);
-        root = with_old t.paths m p 0 t.rooted ∙ t.root;
-        low = λ i c. ⊎_elim
-            (λ (q : (i ≡ n) × (c ≡ b)). omega (arith, g.long, new_kid i c q))
-            (λ (q : i ≡ n → c ≡ b → ⊥). omega (arith, g.long, g.old i c q, t.low i c))
-            (same_place i n b c);
-        kids = λ i c y. ⊎_elim
-            (λ (q : (i ≡ n) × (c ≡ b)).
-            with_new t.paths m p (kid more i c) (new_kid i c q) ∙ ap (λ (d : Bool). t.paths n ++ d ∷ []) (sym q.1) ∙ ap (λ (xs : List Bool). xs ++ c ∷ []) (sym (with_old t.paths m p i (omega arith) ∙ ap t.paths q.0)))
-            (λ (q : i ≡ n → c ≡ b → ⊥).
-            let k = g.old i c q in
-            let y2 : 0 < kid nodes i c = omega arith in
-            with_old t.paths m p (kid more i c) (omega (arith, t.low i c)) ∙ ap t.paths k ∙ t.kids i c y2 ∙ ap (λ (xs : List Bool). xs ++ c ∷ []) (sym (with_old t.paths m p i (kid_within nodes i c y2))))
-            (same_place i n b c);
-      }
+  tree_grown t = record {
+    rooted = omega (arith, g.long);
+    low = λ i c k y. ⊎_elim
+        (λ (q : (i ≡ n) × (c ≡ b)). omega (arith, g.long, same_Some _ _ (sym (new_kid i c q) ∙ y)))
+        (λ (q : i ≡ n → c ≢ b). omega (arith, g.long, t.low i c k (sym (g.old i c q) ∙ y)))
+        (same_place i n b c);
+    some_way = λ i h. ⊎_elim
+        (λ (x : i < length nodes). ∥∥₁_map (t.some_way i x) (λ w. (w.0, leads_kept nodes more kept_kid 0 w.0 i w.1)))
+        (λ (x : length nodes ≤ i).
+        let e : i ≡ length nodes = omega (arith, g.long) in
+        ∥∥₁_map (t.some_way n l) (λ w. (w.0 ++ b ∷ [], leads_push more 0 w.0 n b i (leads_kept nodes more kept_kid 0 w.0 n w.1) (g.new ∙ ap Some (sym e)))))
+        (cases_lt i (length nodes));
+    one_way = λ bs cs e x y. one_end t bs cs e (ways t 0 bs e t.rooted x) (ways t 0 cs e t.rooted y);
+  }
 
   -- the new node has no label, and none further on
   look_new : (bs : List Bool) → look more (length nodes) bs ≡ None
   look_new [] = g.tags (length nodes) ∙ past_tag nodes (length nodes) (omega arith)
-  look_new (c ∷ cs) =
-      let k = g.old (length nodes) c (λ q _. omega arith) ∙ past_kid nodes (length nodes) c (omega arith) in
-      cond-true (eqb (kid more (length nodes) c) 0) None (look more (kid more (length nodes) c) cs) (eq-eqb (kid more (length nodes) c) 0 k)
+  look_new (c ∷ cs) = ap (option_and_then (λ k. look more k cs)) (new_end c)
 
   -- the labels are where they were
   look_grown : (i : ℕ) (bs : List Bool) → look more i bs ≡ look nodes i bs
   look_grown i [] = g.tags i
   look_grown i (c ∷ cs) = ⊎_elim
-      (λ (q : (i ≡ n) × (c ≡ b)).
-      let k = ap (λ (j : ℕ). kid nodes j c) q.0 ∙ ap (λ (d : Bool). kid nodes n d) q.1 ∙ z in
-      let m : (length nodes ≡ 0 → ⊥) = λ e. omega arith in
-      ap (λ (j : ℕ). cond (eqb j 0) None (look more j cs)) (new_kid i c q)
-      ∙ cond-false (eqb (length nodes) 0) None (look more (length nodes) cs) (ne_eqb (length nodes) 0 m)
-      ∙ look_new cs
-      ∙ sym (cond-true (eqb (kid nodes i c) 0) None (look nodes (kid nodes i c) cs) (eq-eqb (kid nodes i c) 0 k)))
-      (λ (q : i ≡ n → c ≡ b → ⊥).
-      ap (λ (j : ℕ). cond (eqb j 0) None (look more j cs)) (g.old i c q) ∙ ap (cond (eqb (kid nodes i c) 0) None) (look_grown (kid nodes i c) cs))
+      (λ (q : (i ≡ n) × (c ≡ b)). ap (option_and_then (λ k. look more k cs)) (new_kid i c q) ∙ look_new cs ∙ sym (ap (option_and_then (λ k. look nodes k cs)) (no_kid i c q)))
+      (λ (q : i ≡ n → c ≢ b). ap (option_and_then (λ k. look more k cs)) (g.old i c q) ∙ same_on _ _ (kid nodes i c) (λ k _. look_grown k cs))
       (same_place i n b c)
 
--- one bit further on, where there is a node
-module _ (nodes : List Node) (bs : List Bool) (i at : ℕ) (r : Reached nodes bs i at) (more : i < length bs) (b : Bool) (eb : b ≡ get_or bs i false) where
-  pub reach_old : (n : ℕ) → n ≡ kid nodes at b → (n ≡ 0 → ⊥) → Reached nodes bs (i + 1) n
-  reach_old n en ne = subst (λ (k : ℕ). Reached nodes bs (i + 1) k) (sym en) (record {
-    tree = r.tree;
-    low = r.tree.low at b;
-    leads = subst (λ (xs : List Bool). Leads nodes 0 xs (kid nodes at b)) (sym (take_more bs i false more ∙ ap (λ (c : Bool). take i bs ++ c ∷ []) (sym eb))) (leads_push nodes 0 (take i bs) at b r.leads (omega arith));
-  })
-
--- and where one grows
-module _ (nodes after : List Node) (bs : List Bool) (i at : ℕ) (r : Reached nodes bs i at) (more : i < length bs) (b : Bool) (eb : b ≡ get_or bs i false) (n : ℕ) (en : n ≡ kid nodes at b) (z : n ≡ 0) (eg : after ≡ grown nodes at b) where
-  grew : Grown nodes after at b
-  grew = subst (λ (xs : List Node). Grown nodes xs at b) (sym eg) (grows nodes at b r.low)
-
-  pub reach_new : (k : ℕ) → k ≡ length nodes → Reached after bs (i + 1) k
-  reach_new k ek =
-      let zero : kid nodes at b ≡ 0 = sym en ∙ z in
-      reach_old after bs i at
-      (record { tree = tree_grown nodes after at b r.low zero grew r.tree; low = omega (arith, grew.long, r.low); leads = leads_more nodes after (kept_kid nodes after at b r.low zero grew) 0 (take i bs) at r.leads })
-      more b eb k (ek ∙ sym grew.new) (λ e. omega (arith, r.low))
-
-  pub long_new : length after ≡ length nodes + 1
-  long_new = grew.long
-
-  pub labels_new : (xs : List Bool) → look after 0 xs ≡ look nodes 0 xs
-  labels_new xs = look_grown nodes after at b r.low (sym en ∙ z) grew 0 xs
+-- the same ways make the same tree
+tree_same : (nodes more : List Node) → length more ≡ length nodes → ((i : ℕ) (c : Bool) → kid more i c ≡ kid nodes i c) → Tree nodes → Tree more
+tree_same nodes more long kids t =
+    let back = leads_kept more nodes (λ i c k y. sym (kids i c) ∙ y) in
+    record {
+      rooted = omega (arith, long, t.rooted);
+      low = λ i c k y. omega (arith, long, t.low i c k (sym (kids i c) ∙ y));
+      some_way = λ i h. ∥∥₁_map (t.some_way i (omega (arith, long))) (λ w. (w.0, leads_kept nodes more (λ j c k y. kids j c ∙ y) 0 w.0 i w.1));
+      one_way = λ bs cs k x y. t.one_way bs cs k (back 0 bs k x) (back 0 cs k y);
+    }
 
 -- a label where bits lead
-module _ (nodes more : List Node) (bs : List Bool) (e : ℕ) (l : Label) (r : Reached nodes bs (length bs) e) (em : more ≡ marked nodes e l) where
-  t : Tagged nodes more e l
-  t = subst (λ (xs : List Node). Tagged nodes xs e l) (sym em) (marks nodes e l r.low)
+module _ (nodes more : List Node) (e : ℕ) (l : Label) (g : Tagged nodes more e l) (t : Tree nodes) where
+  module _ (bs : List Bool) (h : Leads nodes 0 bs e) where
+    look_here : look more 0 bs ≡ Some l
+    look_here = leads_look more 0 bs e (leads_kept nodes more (λ i c k y. g.kids i c ∙ y) 0 bs e h) ∙ g.here
 
-  pub long_marked : length more ≡ length nodes
-  long_marked = t.long
+    -- from the node at i, to which other bits lead
+    elsewhere : (i : ℕ) (ps xs : List Bool) → Leads nodes 0 ps i → ps ++ xs ≢ bs → look more i xs ≡ look nodes i xs
+    elsewhere i ps [] y ne = g.other i (λ q. ne (append-nil ps ∙ t.one_way ps bs e (subst (Leads nodes 0 ps) q y) h))
+    elsewhere i ps (c ∷ cs) y ne = ap (option_and_then (λ k. look more k cs)) (g.kids i c) ∙ same_on _ _ (kid nodes i c)
+        (λ k q. elsewhere k (ps ++ c ∷ []) cs (leads_push nodes 0 ps i c k y q) (λ r. ne (sym (append_assoc ps (c ∷ []) cs) ∙ r)))
 
-  pub tree_tagged : Tree more
-  tree_tagged = record {
-    paths = r.tree.paths;
-    rooted = omega (arith, t.long, r.low);
-    root = r.tree.root;
-    low = λ i b. omega (arith, t.long, t.kids i b, r.tree.low i b);
-    kids = λ i b y. let k = t.kids i b in ap r.tree.paths k ∙ r.tree.kids i b (omega arith);
-  }
-
-  leads_here : Leads nodes 0 bs e
-  leads_here = subst (λ (xs : List Bool). Leads nodes 0 xs e) (take_all (length bs) bs (omega arith)) r.leads
-
-  pub look_here : look more 0 bs ≡ Some l
-  look_here = leads_look more 0 bs e (leads_more nodes more (λ i c _. t.kids i c) 0 bs e leads_here) ∙ t.here
-
-  elsewhere : (i : ℕ) (xs : List Bool) → (r.tree.paths i ++ xs ≡ r.tree.paths e → ⊥) → look more i xs ≡ look nodes i xs
-  elsewhere i [] ne = t.other i (λ q. ne (append-nil (r.tree.paths i) ∙ ap r.tree.paths q))
-  elsewhere i (c ∷ cs) ne =
-      ap (λ (j : ℕ). cond (eqb j 0) None (look more j cs)) (t.kids i c)
-      ∙ go (eqb (kid nodes i c) 0) (λ y.
-      let on = eqb-false (kid nodes i c) 0 y in
-      let p : 0 < kid nodes i c = ⊎_elim (λ (x : 0 < kid nodes i c). x) (λ (x : kid nodes i c ≤ 0). absurd (on (omega arith))) (cases_lt 0 (kid nodes i c)) in
-      elsewhere (kid nodes i c) cs (λ q. ne (sym (append_assoc (r.tree.paths i) (c ∷ []) cs) ∙ ap (λ (xs : List Bool). xs ++ cs) (sym (r.tree.kids i c p)) ∙ q))) refl
-    where
-      go : (b : Bool) → (eqb (kid nodes i c) 0 ≡ false → look more (kid nodes i c) cs ≡ look nodes (kid nodes i c) cs) → eqb (kid nodes i c) 0 ≡ b → cond b None (look more (kid nodes i c) cs) ≡ cond b None (look nodes (kid nodes i c) cs)
-      go true f y = refl
-      go false f y = f y
-
-  pub look_elsewhere : (xs : List Bool) → (xs ≡ bs → ⊥) → look more 0 xs ≡ look nodes 0 xs
-  look_elsewhere xs ne =
-      let start : (ys : List Bool) → r.tree.paths 0 ++ ys ≡ ys = λ ys. ap (λ (p : List Bool). p ++ ys) r.tree.root in
-      elsewhere 0 xs (λ q. ne (sym (start xs) ∙ q ∙ leads_path nodes r.tree 0 bs e leads_here ∙ start bs))
+    look_elsewhere : (xs : List Bool) → xs ≢ bs → look more 0 xs ≡ look nodes 0 xs
+    look_elsewhere xs ne = elsewhere 0 [] xs refl ne
 
 -- the root alone
-no_kid : (i : ℕ) (b : Bool) → kid (no_node ∷ []) i b ≡ 0
+root_kid : (i : ℕ) (b : Bool) → kid (no_node ∷ []) i b ≡ None
 unfolding kid
-no_kid zero true = refl
-no_kid zero false = refl
-no_kid (suc i) true = refl
-no_kid (suc i) false = refl
+root_kid zero true = refl
+root_kid zero false = refl
+root_kid (suc i) true = refl
+root_kid (suc i) false = refl
 
-no_tag : (i : ℕ) → tag (no_node ∷ []) i ≡ None
+root_tag : (i : ℕ) → tag (no_node ∷ []) i ≡ None
 unfolding tag
-no_tag zero = refl
-no_tag (suc i) = refl
+root_tag zero = refl
+root_tag (suc i) = refl
+
+root_way : (bs : List Bool) (e : ℕ) → Leads (no_node ∷ []) 0 bs e → bs ≡ []
+root_way [] e y = refl
+root_way (b ∷ bs) e y = absurd (none-some y.0 (sym (root_kid 0 b) ∙ y.1))
 
 pub tree_root : Tree (no_node ∷ [])
 tree_root = record {
-  paths = λ _. [];
   rooted = omega arith;
-  root = refl;
-  low = λ i b. omega (arith, no_kid i b);
-  kids = λ i b y. absurd (omega (arith, no_kid i b));
+  low = λ i b k y. absurd (none-some k (sym (root_kid i b) ∙ y));
+  some_way = λ i h. ∣ ([], omega arith) ∣₁;
+  one_way = λ bs cs e x y. root_way bs e x ∙ sym (root_way cs e y);
 }
 
 pub look_root : (bs : List Bool) → look (no_node ∷ []) 0 bs ≡ None
-look_root [] = no_tag 0
-look_root (b ∷ bs) = cond-true (eqb (kid (no_node ∷ []) 0 b) 0) None (look (no_node ∷ []) (kid (no_node ∷ []) 0 b) bs) (eq-eqb (kid (no_node ∷ []) 0 b) 0 (no_kid 0 b))
+look_root [] = root_tag 0
+look_root (b ∷ bs) = ap (option_and_then (λ k. look (no_node ∷ []) k bs)) (root_kid 0 b)
+
+-- what the functions that write need
+module _ (nodes more : List Node) (n : ℕ) (b : Bool) (l : n < length nodes) (z : kid nodes n b ≡ None) (e : more ≡ grown nodes n b) where
+  grew : Grown nodes more n b
+  grew = subst (λ xs. Grown nodes xs n b) (sym e) (grows nodes n b l)
+
+  pub grown_tree : Tree nodes → Tree more
+  grown_tree = tree_grown nodes more n b l z grew
+
+  pub grown_labels : (bs : List Bool) → look more 0 bs ≡ look nodes 0 bs
+  grown_labels = look_grown nodes more n b l z grew 0
+
+  pub grown_leads : (bs : List Bool) → Leads nodes 0 bs n → Leads more 0 (bs ++ b ∷ []) (length nodes)
+  grown_leads bs h = leads_push more 0 bs n b (length nodes) (leads_kept nodes more (kept_kid nodes more n b l z grew) 0 bs n h) grew.new
+
+module _ (nodes more : List Node) (n : ℕ) (k : Label) (t : Tree nodes) (l : n < length nodes) (e : more ≡ marked nodes n k) where
+  tagged : Tagged nodes more n k
+  tagged = subst (λ xs. Tagged nodes xs n k) (sym e) (marks nodes n k l)
+
+  pub marked_here : (bs : List Bool) → Leads nodes 0 bs n → look more 0 bs ≡ Some k
+  marked_here = look_here nodes more n k tagged t
+
+  pub marked_elsewhere : (bs : List Bool) → Leads nodes 0 bs n → (xs : List Bool) → xs ≢ bs → look more 0 xs ≡ look nodes 0 xs
+  marked_elsewhere = look_elsewhere nodes more n k tagged t
+
+-- the tree in the words of the code: r was read at n, and x is written there
+pub tree_turned : (nodes pushed : List Node) (n : ℕ) (r x : Node) (b : Bool) (m : ℕ) → pushed ≡ nodes ++ no_node ∷ [] → r ≡ get_or pushed n r → x ≡ turned r b m → m ≡ length nodes → n < length nodes → kid nodes n b ≡ None → Tree nodes → Tree (set pushed n x)
+tree_turned nodes pushed n r x b m ep er ex em l z t =
+    let more : n < length pushed = omega (arith, ap length ep, length_push nodes no_node) in
+    let there : r ≡ get_or nodes n no_node = get_or_read pushed n r more er no_node ∙ ap (λ xs. get_or xs n no_node) ep ∙ get_or_append_left nodes (no_node ∷ []) no_node n l in
+    grown_tree nodes (set pushed n x) n b l z (cc) t
+
+pub tree_labelled : (nodes : List Node) (n : ℕ) (r x : Node) → r ≡ get_or nodes n r → x.zero ≡ r.zero → x.one ≡ r.one → n < length nodes → Tree nodes → Tree (set nodes n x)
+tree_labelled nodes n r x er ez eo l t =
+    let there = get_or_read nodes n r l er no_node in
+    tree_same nodes (set nodes n x) (length-set nodes n x) (kept_kids nodes n x l (ez ∙ ap (λ (y : Node). y.zero) there) (eo ∙ ap (λ (y : Node). y.one) there)) t

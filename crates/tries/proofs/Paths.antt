@@ -1,20 +1,36 @@
 -- The bits of a path.
-use Rattle.std.proofs.Common.{◌≡◌, ℕ, ◌-◌, ◌<◌, ◌≤◌, false, length, get_or, take, sym, ap, ◌∙◌, arith}
-use Rattle.std.proofs.lemmas.List.{length-take-le, get_or-take, get_or_past, take-take}
-use Rattle.tries.specs.Digits.{digit, digits, digits_length, digits_at}
+use Rattle.std.proofs.Common.{◌≡◌, ℕ, zero, suc, ◌-◌, ◌/◌, ◌%◌, ◌^◌, ◌==◌, false, pow_mono, ◌<◌, ◌≤◌, [], ◌∷◌, length, take, sym, ap, ◌∙◌, sub-one, arith}
+use Rattle.std.proofs.lemmas.List.{length-take-le, take-take}
+use native.Mathlib.Nat.{div-eq_of_lt}
+use Rattle.tries.specs.Digits.{digit, digits, digits_length}
 use Rattle.tries.specs.Spelling.{Shorter, bits}
 use Rattle.tries.specs.declared.path.BitPath.{BitPath}
 
+-- past its 32 bits a number has none set
+pub digit_past : (i n : ℕ) → n < 2 ^ 32 → 32 ≤ i → digit i n ≡ false
+unfolding digit
+digit_past i n h l =
+    let p = pow_mono {i = 32} {j = i} l in
+    let z : n / 2 ^ i ≡ 0 = div-eq_of_lt (omega arith) in
+    ap (λ (x : ℕ). x % 2 == 1) z
+
+-- no bits, and the first bit with those after it
+pub none_first : (l w n : ℕ) → l ≡ 0 → take l (digits w n) ≡ []
+none_first l w n h = ap (λ (k : ℕ). take k (digits w n)) h
+
+pub one_first : (l w n : ℕ) → 0 < l → l ≤ w → take l (digits w n) ≡ digit (w - 1) n ∷ take (l - 1) (digits (w - 1) n)
+one_first zero w n h k = absurd (omega arith)
+one_first (suc l) zero n h k = absurd (omega arith)
+one_first (suc l) (suc w) n h k = simp sub-one
+
+pub many_first : (l w n : ℕ) → l ≤ w → length (take l (digits w n)) ≡ l
+many_first l w n h = length-take-le l (digits w n) (omega (arith, digits_length w n))
+
+pub ruleset first_steps = (none_first, one_first, many_first)
+
 pub bits_length : (p : BitPath) → length (bits p) ≡ p.length
 unfolding bits
-bits_length p = length-take-le p.length (digits p.width p.number) (omega (arith, p.short, digits_length p.width p.number))
-
-pub bits_at : (p : BitPath) (i : ℕ) → i < p.length → get_or (bits p) i false ≡ digit (p.width - 1 - i) p.number
-unfolding bits
-bits_at p i l = get_or-take p.length (digits p.width p.number) i false l ∙ digits_at p.width p.number i (omega (arith, p.short))
-
-pub bits_past : (p : BitPath) (i : ℕ) → p.length ≤ i → get_or (bits p) i false ≡ false
-bits_past p i l = get_or_past (bits p) i false (omega (arith, bits_length p))
+bits_length p = many_first p.length p.width p.number p.short
 
 -- a path without its last bit
 pub bits_shorter : (p q : BitPath) → Shorter p q → bits q ≡ take (length (bits p) - 1) (bits p)

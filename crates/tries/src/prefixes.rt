@@ -1,4 +1,5 @@
 // Prefixes by their bits, and the tries for them.
+ghost use Rattle.std.specs.Prelude.{refl};
 ghost use Rattle.tries.specs.PrefixSpelling.{prefix_spelling};
 
 use crate::path::BitPath;
@@ -22,8 +23,7 @@ impl<V: Bits + Copy, const W: u8, const S: u8> Spelled for Prefixes<V, W, S> {
 
     ghost spelling = { prefix_spelling W S V.Bits.numbering };
 
-    fn kin() {}
-
+    #[tactic(auto, unfolding(crate::specs::Spelling::bits, crate::specs::PrefixSpelling::path))]
     fn path(p: Prefix<W, S>) -> BitPath {
         BitPath {
             number: Prefixes::<V, W, S>::number(p),
@@ -32,11 +32,14 @@ impl<V: Bits + Copy, const W: u8, const S: u8> Spelled for Prefixes<V, W, S> {
         }
     }
 
+    #[tactic(auto, unfolding(crate::specs::Spelling::bits, crate::specs::PrefixSpelling::spell))]
     fn spell(v: V) -> BitPath {
         BitPath {
             number: v.to_number(),
             width: W,
-            length: if W < 32 { W } else { 32 },
+            length: W.min(32),
         }
     }
+
+    ghost meaning = { refl };
 }

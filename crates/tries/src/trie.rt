@@ -17,12 +17,13 @@ pub struct Trie<K: Spelled> {
     patterns: Vec<K::Pattern>,
     nodes: Nodes,
     ghost reserved: { 257 ≤ vec_capacity patterns },
+    ghost ready: { Ready K.Spelled.spelling nodes.list.items patterns.items },
 }
 
 impl<K: Spelled> Trie<K> {
     // A trie that holds nothing yet.
     pub fn new(heap: Global) -> Result<Trie<K>, AllocError>
-        ensures { IfOk result (λ t. Ready K.Spelled.spelling t.nodes.list.items t.patterns.items × (t.patterns.items ≡ [])) }
+        ensures { IfOk result (λ t. t.patterns.items ≡ []) }
     {
         let patterns = Vec::with_capacity(heap, ROOM)?;
         let nodes = Nodes::new(heap)?;
@@ -30,8 +31,8 @@ impl<K: Spelled> Trie<K> {
     }
 
     // The label of a pattern that is held.
+    #[tactic(auto, using(crate::proofs::Finds::known_is))]
     fn known(&self, p: K::Pattern) -> Option<Label>
-        requires { Ready K.Spelled.spelling self.now.nodes.list.items self.now.patterns.items }
         ensures { label_place result ≡ known_label K.Spelled.spelling.nest self.now.patterns.items p }
     {
         self.nodes.find(K::path(p))
@@ -45,7 +46,7 @@ impl<K: Spelled> Finder for Trie<K> {
 
     type Kind = K::Kind;
 
-    ghost ready = { λ t. Ready K.Spelled.spelling t.nodes.list.items t.patterns.items };
+    ghost ready = { λ _. Unit {0} };
 
     ghost held = { λ t. t.patterns.items };
 
@@ -57,7 +58,6 @@ impl<K: Spelled> Finder for Trie<K> {
     }
 
     fn take(&mut self, p: K::Pattern) -> Option<Label> {
-        K::kin();
         if let Some(label) = self.known(p) {
             return Some(label);
         }
@@ -73,14 +73,14 @@ impl<K: Spelled> Finder for Trie<K> {
         Some(label)
     }
 
+    #[tactic(auto, using(crate::proofs::Finds::best_is))]
     fn best(&self, v: K::Value) -> Option<Label> {
-        K::kin();
         self.nodes.deepest(K::spell(v))
     }
 
     // What lies around a pattern has fewer of its bits.
+    #[tactic(auto, using(crate::proofs::Finds::parent_above, crate::proofs::Finds::parent_none))]
     fn parent(&self, label: Label) -> Option<Label> {
-        K::kin();
         let p = self.pattern(label)?;
         let above = K::path(p).shorter()?;
         self.nodes.deepest(above)

@@ -1,22 +1,21 @@
 // Words into bytes.
-ghost use Rattle.std.specs.Prelude.{◌≡◌, ◌+◌, ◌*◌, ◌≤◌, length};
-ghost use Rattle.std.specs.List.{flat_map, AllByRecursion};
+ghost use Rattle.std.specs.Prelude.{◌≡◌, ◌+◌, ◌*◌, ◌≤◌, ◌++◌, length, drop};
+ghost use Rattle.std.specs.List.{flat_map};
 ghost use Rattle.sheets.specs.Format.{sheet_bytes};
 ghost use Rattle.sheets.specs.Words.{word_bytes};
-ghost use Rattle.writer.specs.Fitting.{Fitting};
 ghost use Rattle.octets.specs.Output.{put_at};
-ghost use Rattle.writer.specs.RuleBytes.{rule_bytes};
 
+use crate::checks::Checked;
 use crate::words;
-use sheets::row::RuleRow;
 
 // A word has four bytes.
-pub(crate) const WORD_BYTES: usize = 4;
+const WORD_BYTES: usize = 4;
 
 // A rule has eight words.
-pub(crate) const RULE_BYTES: usize = 32;
+const RULE_BYTES: usize = 8 * WORD_BYTES;
 
 // Writes a word at a place of the output, its highest byte first.
+// The place is a number: of what is written through `chunks_exact_mut` or `as_chunks_mut` a proof knows the length alone.
 fn put_word(out: &mut [u8], at: usize, word: u32)
     requires { at + 4 ≤ length out.old }
     ensures { out.new ≡ put_at at (word_bytes word) out.old }
@@ -25,6 +24,7 @@ fn put_word(out: &mut [u8], at: usize, word: u32)
 }
 
 // Writes words one after another, the first at a place of the output.
+#[tactic(auto, using(octets::proofs::Puts::put_none, octets::proofs::Puts::put_all))]
 fn put_words(out: &mut [u8], at: usize, words: &[u32])
     requires { at + 4 * length words.now ≤ length out.old }
     ensures { out.new ≡ put_at at (flat_map word_bytes words.now) out.old }
@@ -34,25 +34,25 @@ fn put_words(out: &mut [u8], at: usize, words: &[u32])
     }
 }
 
-// Writes rules one after another at the front of the output.
-fn put_rules(out: &mut [u8], rules: &[RuleRow])
-    requires fit { AllByRecursion Fitting rules.now }
-    requires room { 32 * length rules.now ≤ length out.old }
-    ensures { out.new ≡ put_at 0 (flat_map rule_bytes rules.now) out.old }
-{
-    for (i, rule) in rules.iter().enumerate() {
-        put_words(out, RULE_BYTES * i, &words::words_of_rule(*rule));
+impl Checked<'_> {
+    // How many bytes the sheet has.
+    #[tactic(auto, using(crate::proofs::Sheets::length_sheet))]
+    pub(crate) fn size(self) -> usize
+        ensures { result ≡ length (sheet_bytes self.entry.rules.now) }
+    {
+        RULE_BYTES * self.rules.len() + WORD_BYTES
     }
-}
 
-// Writes the sheet of these rules at the front of the output.
-pub(crate) fn put_sheet(out: &mut [u8], rules: &[RuleRow])
-    requires fit { AllByRecursion Fitting rules.now }
-    requires few { length rules.now ≤ 256 }
-    requires room { 32 * length rules.now + 4 ≤ length out.old }
-    ensures { out.new ≡ put_at 0 (sheet_bytes rules.now) out.old }
-{
-    put_rules(out, rules);
-    let count = rules.len();
-    put_word(out, RULE_BYTES * count, words::end_word(count as u32));
+    // Writes the sheet at the front of the output.
+    #[tactic(auto, using(crate::proofs::Sheets::length_sheet, crate::proofs::Rows::fitting_at, sheets::proofs::Rows::few, octets::proofs::Puts::put_none))]
+    pub(crate) fn put(self, out: &mut [u8])
+        requires { length (sheet_bytes self.rules.now) ≤ length out.old }
+        ensures { out.new ≡ sheet_bytes self.entry.rules.now ++ drop (length (sheet_bytes self.entry.rules.now)) out.old }
+    {
+        for (i, rule) in self.rules.iter().enumerate() {
+            put_words(out, RULE_BYTES * i, &words::words_of_rule(*rule));
+        }
+        let count = self.rules.len();
+        put_word(out, RULE_BYTES * count, words::end_word(count as u32));
+    }
 }

@@ -6,7 +6,7 @@ ghost use Rattle.fields.specs.Refusals.{refusal};
 ghost use Rattle.sheets.specs.Format.{sheet_bytes};
 ghost use Rattle.sheets.specs.Writing.{write_refusal, written};
 
-use crate::bytes::{RULE_BYTES, WORD_BYTES};
+use crate::checks::Checked;
 use fields::refusal::Refusal;
 use sheets::row::RuleRow;
 
@@ -20,11 +20,11 @@ pub fn write_sheet(rules: &[RuleRow], out: &mut [u8]) -> Result<usize, Refusal>
     ensures count { IfOk result (λ n. n ≡ length (sheet_bytes rules.now)) }
     ensures out { out.new ≡ written (write_refusal rules.now (length out.old)) rules.now out.old }
 {
-    checks::check_rules(rules)?;
-    let size = RULE_BYTES * rules.len() + WORD_BYTES;
+    let checked = Checked::new(rules)?;
+    let size = checked.size();
     if out.len() < size {
         return Err(Refusal::NoRoom);
     }
-    bytes::put_sheet(out, rules);
+    checked.put(out);
     Ok(size)
 }

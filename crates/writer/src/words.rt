@@ -1,48 +1,32 @@
 // Rules into words.
 ghost use Rattle.std.specs.Prelude.{◌≡◌, ◌+◌, ◌*◌, ◌/◌, ◌%◌, ◌^◌, ◌<◌, ◌≤◌};
 ghost use Rattle.sheets.specs.Format.{rule_words};
-ghost use Rattle.sheets.specs.Words.{side_of, kind_due, side_due, word};
+ghost use Rattle.sheets.specs.Kinds.{number_of};
+ghost use Rattle.sheets.specs.Words.{word};
 ghost use Rattle.writer.specs.Fitting.{Fitting};
 
 use fields::numbers::PrefixLength;
 use sheets::part::{Part, Side};
 use sheets::row::{PatternRow, RuleRow};
+use sheets::word::WordKind;
 
-// The kind of a word is in its bits 31-29: 1 opens a rule.
-const RULE: u32 = 1 << 29;
-
-// Kind 6 ends the sheet.
-const END: u32 = 6 << 29;
-
-fn side_bit(side: Side) -> u32
-    ensures { result ≡ side_of side }
+// The word of a kind with its bits 28-0.
+fn word_of(kind: WordKind, rest: u32) -> u32
+    requires { rest < 2 ^ 29 }
+    ensures { result ≡ number_of kind * 2 ^ 29 + rest }
 {
-    match side {
-        Side::Source => 0,
-        Side::Destination => 1,
-    }
-}
-
-// The kind of a part's word, and its side.
-fn part_head(part: Part) -> (u32, u32)
-    ensures { (result.0 ≡ kind_due part) × (result.1 ≡ side_due part) }
-{
-    match part {
-        Part::Upper(side) => (2, side_bit(side)),
-        Part::Lower(side) => (3, side_bit(side)),
-        Part::Port(side) => (4, side_bit(side)),
-        Part::Protocol => (5, 0),
-    }
+    (kind.number() << 29) + rest
 }
 
 // The word of a part with a length and a number.
-fn part_word(part: Part, length: PrefixLength, number: u32) -> u32
-    requires short { length.bits < 64 }
-    requires low { number < 2 ^ 16 }
-    ensures { result ≡ word part length.bits number }
+fn part_word(part: Part, row: PatternRow) -> u32
+    requires short { row.length.bits < 64 }
+    requires low { row.number < 2 ^ 16 }
+    ensures { result ≡ word part row.length.bits row.number }
 {
-    let (kind, side) = part_head(part);
-    (kind << 29) + (side << 28) + (u32::from(length.bits) << 22) + number
+    let size = u32::from(row.length.bits);
+    let rest = (part.side_bit() << 28) + (size << 22) + row.number;
+    word_of(part.kind(), rest)
 }
 
 // The word of an address pattern's length and the upper half of its number.
@@ -50,18 +34,17 @@ fn upper_word(side: Side, row: PatternRow) -> u32
     requires { row.length.bits ≤ 32 }
     ensures { result ≡ word (Part.Upper side) row.length.bits (row.number / 2 ^ 16) }
 {
-    part_word(Part::Upper(side), row.length, row.number >> 16)
+    let number = row.number >> 16;
+    part_word(Part::Upper(side), PatternRow { number, ..row })
 }
 
 // The word of the lower half of an address pattern's number.
 fn lower_word(side: Side, row: PatternRow) -> u32
     ensures { result ≡ word (Part.Lower side) 0 (row.number % 2 ^ 16) }
 {
-    part_word(
-        Part::Lower(side),
-        PrefixLength { bits: 0 },
-        row.number % 65536,
-    )
+    let length = PrefixLength::default();
+    let number = row.number % 65536;
+    part_word(Part::Lower(side), PatternRow { length, number })
 }
 
 // The eight words of a rule.
@@ -69,25 +52,21 @@ pub(crate) fn words_of_rule(rule: RuleRow) -> [u32; 8]
     requires { Fitting rule }
     ensures { result ≡ rule_words rule }
 {
-    let addresses = rule.addresses;
-    let ports = rule.ports;
+    let RuleRow {
+        number,
+        addresses,
+        ports,
+        protocol,
+    } = rule;
     [
-        RULE + rule.number,
+        word_of(WordKind::Rule, number),
         upper_word(Side::Source, addresses.source),
         lower_word(Side::Source, addresses.source),
         upper_word(Side::Destination, addresses.destination),
         lower_word(Side::Destination, addresses.destination),
-        part_word(
-            Part::Port(Side::Source),
-            ports.source.length,
-            ports.source.number,
-        ),
-        part_word(
-            Part::Port(Side::Destination),
-            ports.destination.length,
-            ports.destination.number,
-        ),
-        part_word(Part::Protocol, rule.protocol.length, rule.protocol.number),
+        part_word(Part::Port(Side::Source), ports.source),
+        part_word(Part::Port(Side::Destination), ports.destination),
+        part_word(Part::Protocol, protocol),
     ]
 }
 
@@ -96,5 +75,5 @@ pub(crate) fn end_word(count: u32) -> u32
     requires { count < 2 ^ 29 }
     ensures { result ≡ 6 * 2 ^ 29 + count }
 {
-    END + count
+    word_of(WordKind::End, count)
 }

@@ -1,4 +1,4 @@
-use Rattle.sheetlaws.proofs.Stops.{stops_first}
+use Rattle.sheets.proofs.Stops.{stops_first}
 use Rattle.sheetlaws.proofs.stops_first.Goals as goal
 
 pub returns : goal.returns

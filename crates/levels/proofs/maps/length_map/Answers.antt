@@ -1,16 +1,14 @@
-use Rattle.std.proofs.Common.{[], ◌∷◌, ◌++◌, take, sym, subst}
+use Rattle.std.proofs.Common.{[], ◌∷◌, ◌++◌, length, take, sym, subst, true}
 use Rattle.std.proofs.lemmas.List.{get_or_read, take_all}
+use Rattle.std.proofs.lemmas.Bool.{ltb-true}
 use Rattle.levels.specs.Maps.{Maps}
 use Rattle.levels.proofs.Counts.{take_read}
-use Rattle.levels.proofs.Layers.{Layered, layered_none, layered_sets, layered_aside, layered_whole, maps_from}
+use Rattle.levels.proofs.Layers.{Layered, layered_sets, layered_aside, layered_whole, maps_from}
 use Rattle.levels.proofs.maps.length_map.Goals as goal
-
-pub loop-q-init : goal.loop-q-init
-loop-q-init g c = layered_none c.index-held-place.result
 
 pub loop-q-preserved : goal.loop-q-preserved
 loop-q-preserved g c =
-    let p = c.index-held-place.result in
+    let p = c.in_ok-p.field-0.now in
     let first = take c.loop-q.q-index c.args.held.now in
     let q = c.q-item.result in
     subst (λ qs. Layered p qs c.if-bits-gt0.lengths) (take_read c.args.held.now c.loop-q.q-index q c.loop-q-test.true c.q-item.is)
@@ -24,7 +22,8 @@ loop-q-preserved g c =
 
 pub returns : goal.returns
 returns g c =
-    let p = c.index-held-place.result in
+    let p = c.in_ok-p.field-0.now in
     let held = c.args.held.now in
+    let within = ltb-true c.args.place (length held) (sym {a = true} c.in_ok-p.ensures.lookup.0) in
     let all = maps_from p held c.loop-q.lengths (subst (λ qs. Layered p qs c.loop-q.lengths) (take_all _ held c.loop-q-test.false) c.loop-q.invariant) in
-    (c.if-place-held.false, λ d. subst (λ q. Maps g.row.W g.row.S held q c.loop-q.lengths) (get_or_read held c.args.place p c.if-place-held.false c.index-held-place.is d) all)
+    (within, λ d. subst (λ q. Maps g.row.W g.row.S held q c.loop-q.lengths) (get_or_read held c.args.place p within c.in_ok-p.ensures.lookup.1 d) all)

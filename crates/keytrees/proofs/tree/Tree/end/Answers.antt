@@ -6,10 +6,9 @@ pub loop-number-preserved : goal.loop-number-preserved
 loop-number-preserved c =
     (end_more _ _ _ _ _ _ c.loop-number-test.true c.loop-number.invariant.0 c.in_ok-node.ensures.child, c.in_ok-node.ensures.within)
 
-pub returns-in_err-node : goal.returns-in_err-node
-returns-in_err-node c =
-    let e = end_more _ _ _ _ _ _ c.loop-number-test.true c.loop-number.invariant.0 c.in_err-node.ensures.child in
-    rw c.from_residual.ensures (record { end = e; within = tt })
+pub returns-in_err-node-clause-end : goal.returns-in_err-node-clause-end
+returns-in_err-node-clause-end c =
+    rw c.from_residual.ensures (end_more _ _ _ _ _ _ c.loop-number-test.true c.loop-number.invariant.0 c.in_err-node.ensures.child)
 
-pub returns : goal.returns
-returns c = record { end = end_all _ c.args.way.now c.loop-number.number-index _ _ (search rules) c.loop-number.invariant.0; within = c.loop-number.invariant.1 }
+pub returns-clause-end : goal.returns-clause-end
+returns-clause-end c = end_all _ c.args.way.now c.loop-number.number-index _ _ (search rules) c.loop-number.invariant.0

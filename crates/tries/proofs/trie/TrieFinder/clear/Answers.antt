@@ -1,10 +1,6 @@
-use Rattle.std.proofs.Common.{arith}
+use Rattle.std.proofs.Common.{rules}
 use Rattle.tries.proofs.Holds.{ready_root}
 use Rattle.tries.proofs.trie.TrieFinder.clear.Goals as goal
 
-pub returns : goal.returns
-returns g c = record {
-  ready = ready_root g.K.Spelled.spelling _ _ c.clear-2.ensures c.clear.ensures.items;
-  held = c.clear.ensures.items;
-  room = omega arith;
-}
+pub invariant_of-self-clause-ready : goal.invariant_of-self-clause-ready
+invariant_of-self-clause-ready g c = search (rules, ready_root)

@@ -1,5 +1,0 @@
-use Rattle.octets.proofs.Past.{two_past}
-use Rattle.octets.proofs.number_of_two.Goals as goal
-
-pub returns-then-place-bytes : goal.returns-then-place-bytes
-returns-then-place-bytes c = two_past c.args.bytes.now c.args.place c.if-place-bytes.true

@@ -1,9 +1,0 @@
-use Rattle.std.proofs.Common.{arith}
-use Rattle.writer.proofs.Patterns.{make_ways}
-use Rattle.writer.proofs.checks.bit_beyond.Goals as goal
-
-pub returns-in-Ok : goal.returns-in-Ok
-returns-in-Ok g c = grind (arith, make_ways, c.in-Ok.ensures)
-
-pub returns-in-Err : goal.returns-in-Err
-returns-in-Err g c = grind (arith, make_ways, c.in-Err.ensures)
