@@ -27,7 +27,8 @@ fn ask<F: Finder>(finder: &F, values: &[F::Value], mut sum: u64) -> u64
     sum
 }
 
-// The checksum of all rounds, or 0 where memory was wanting. A text of its own for each trait of a support: they have no method in common.
+// The checksum of all rounds, or 0 where memory was wanting.
+// Each trait of a support has a text of its own: closures to fill and to ask would have to carry the `ready` that the calls ask for.
 pub(crate) fn best_sum<F: Finder + Drop>(
     made: Result<F, AllocError>,
     rows: &[PrefixRow],

@@ -5,15 +5,13 @@ use keytables::key::Key;
 use keytables::table::KeyTable;
 use std::alloc::AllocError;
 
-// Stores the place of each row under its key.
+// Stores the place of each row under its key; of a place the lowest 16 bits.
 fn fill<T: KeyTable>(table: &mut T, rows: &[KeyRow])
     ensures { T.KeyTable.ready table.new }
 {
     table.clear();
-    let mut entry = 0u16;
-    for row in rows {
-        let _ = table.put(Key::from(*row), entry);
-        entry = entry.wrapping_add(1);
+    for (place, row) in rows.iter().enumerate() {
+        let _ = table.put(Key::from(*row), (place & 0xffff) as u16);
     }
 }
 

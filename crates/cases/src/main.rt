@@ -4,11 +4,10 @@
 
 ghost use Rattle.std.specs.Prelude.{◌<◌, length, IfSome};
 
-use fields::refusal::Refusal;
 use files::print_text;
 use listing::sheet_text;
 use packetlisting::packet_text;
-use std::alloc::Global;
+use std::alloc::{AllocError, Global};
 use std::fs;
 
 // The first case, and what follows it, where its length and its bytes are there.
@@ -20,7 +19,7 @@ fn split_case(bytes: &[u8]) -> Option<(&[u8], &[u8])>
 }
 
 // Prints what a function makes of every case of a file.
-fn run<F: Fn(Global, &[u8]) -> Result<String, Refusal>>(
+fn run<F: Fn(Global, &[u8]) -> Result<String, AllocError>>(
     rt: &HostRuntime,
     path: &str,
     text_of: F,

@@ -6,3 +6,4 @@ pub mod Prefixes
 pub mod PrefixLaws
 pub mod Lists
 pub mod Places
+pub mod Checked

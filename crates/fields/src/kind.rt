@@ -1,5 +1,5 @@
 // A kind of field: its patterns, its header values, and what they mean.
-ghost use Rattle.std.specs.Prelude.{◌≡◌, true};
+ghost use Rattle.std.specs.Prelude.{◌≡◌, true, ℕ};
 ghost use Rattle.fields.specs.Nest.{Nest};
 
 use crate::numbers::PrefixLength;
@@ -11,13 +11,18 @@ pub trait FieldKind {
 
     type Value: Copy;
 
-    // The bits of a header value. A constant has no clause: what is proved of it is what the function below answers.
+    // The bits of a header value.
     const WIDTH: u8;
+
+    ghost WIDTH: { ℕ };
 
     ghost nest: { Nest Self.Pattern Self.Value };
 
     fn field_width() -> u8
-        ensures { result ≡ nest.width };
+        ensures { result ≡ nest.width }
+    {
+        Self::WIDTH
+    }
 
     // The pattern of a length and a number, or a refusal.
     fn make(length: PrefixLength, number: u32) -> Result<Self::Pattern, Refusal>
@@ -39,4 +44,7 @@ pub trait FieldKind {
     // Whether a lies within b.
     fn within(a: Self::Pattern, b: Self::Pattern) -> bool
         ensures { result ≡ nest.within a b };
+
+    // The constant is the width of the nest.
+    ghost wide: { WIDTH ≡ nest.width };
 }

@@ -2,6 +2,7 @@
 #![tactic(auto)]
 
 pub mod bits;
+pub mod checked;
 mod checks;
 pub mod kind;
 pub mod numbers;

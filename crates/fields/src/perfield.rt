@@ -2,6 +2,7 @@
 ghost use Rattle.std.specs.Prelude.{◌≡◌, ℕ};
 ghost use Rattle.fields.specs.Places.{index, at as at_place, listed, put};
 
+use crate::numbers::Label;
 use crate::place::Place;
 use crate::sides::Sides;
 
@@ -11,6 +12,9 @@ pub struct PerField<T> {
     pub ports: Sides<T>,
     pub protocol: T,
 }
+
+// One label for each field.
+pub type Labels = PerField<Label>;
 
 impl<T: Copy> PerField<T> {
     // What stands at the five places, in their order.

@@ -1,5 +1,5 @@
 // Addresses, ports and protocols: one text for all prefixes.
-ghost use Rattle.std.specs.Prelude.{◌≡◌};
+ghost use Rattle.std.specs.Prelude.{◌≡◌, refl};
 ghost use Rattle.fields.specs.Prefixes.{make, matches, within};
 ghost use Rattle.fields.specs.PrefixLaws.{prefix_nest};
 
@@ -67,11 +67,11 @@ impl<V: Bits + Copy, const W: u8, const S: u8> FieldKind for Prefixes<V, W, S> {
 
     const WIDTH: u8 = W;
 
+    ghost WIDTH = { W };
+
     ghost nest = { prefix_nest W S V.Bits.numbering };
 
-    fn field_width() -> u8 {
-        W
-    }
+    ghost wide = { refl };
 
     fn make(length: PrefixLength, number: u32) -> Result<Prefix<W, S>, Refusal> {
         Prefix::new(length, number)
@@ -85,6 +85,7 @@ impl<V: Bits + Copy, const W: u8, const S: u8> FieldKind for Prefixes<V, W, S> {
         p.number
     }
 
+    #[tactic(auto, using(crate::specs::PrefixLaws::same_prefix), unfolding(crate::specs::PrefixLaws::whole))]
     fn whole() -> Prefix<W, S> {
         Prefix {
             length: 0,

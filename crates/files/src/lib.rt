@@ -4,12 +4,14 @@
 ghost use Rattle.std.specs.Prelude.{◌≤◌, IfOk, vec_len};
 
 use fields::refusal::Refusal;
+use std::alloc::AllocError;
 use std::fs::File;
 use std::io;
 use std::io::{ErrorKind, Read};
+use texts::MOST_BYTES;
 
 // A byte more than any file that is looked into has.
-const ENOUGH: usize = 65537;
+const ENOUGH: usize = MOST_BYTES + 1;
 
 // What a file holds, up to the first byte too many; a file that is missing counts as empty.
 pub fn file_bytes(rt: &HostRuntime, path: &str) -> io::Result<Vec<u8>>
@@ -25,9 +27,9 @@ pub fn file_bytes(rt: &HostRuntime, path: &str) -> io::Result<Vec<u8>>
     Ok(bytes)
 }
 
-// Prints a text, or the refusal that came in its place.
-pub fn print_text(rt: &HostRuntime, text: Result<String, Refusal>) -> io::Result<()> {
-    match text {
+// Prints a text, or the refusal for want of memory in its place.
+pub fn print_text(rt: &HostRuntime, text: Result<String, AllocError>) -> io::Result<()> {
+    match text.map_err(Refusal::from) {
         Ok(text) => rt.print(text.as_str()),
         Err(refusal) => println!(rt; "{refusal}"),
     }

@@ -1,13 +1,14 @@
 -- The nearest of the patterns that pass a test, where those that pass nest.
-use Rattle.std.proofs.Common.{◌≡◌, ℕ, zero, suc, ◌+◌, ◌<◌, Bool, true, false, not, ◌&&◌, ◌||◌, ◌⊎◌, List, [], ◌∷◌, length, get_or, Some, None, Option, sym, refl, ap, ◌∙◌, subst, inl, inr, ⊎_elim, add-one, below_more, arith}
+use Rattle.std.proofs.Common.{◌≡◌, ℕ, zero, suc, ◌+◌, ◌<◌, Bool, true, false, not, ◌&&◌, ◌||◌, List, [], ◌∷◌, length, get_or, Some, None, Option, IfSome, sym, refl, ap, ◌∙◌, subst, inl, inr, ⊎_elim, add-one, below_more, arith}
 use Rattle.std.proofs.lemmas.Bool.{and_from, and_parts, and_left, and_right, or_left, or_right, or_from, not-true, not_from_true, not_from_false, both_ways, cases_Bool, cond_both, true_from_ne_false, false_from_ne_true}
+use Rattle.std.proofs.lemmas.List.{get_or_default}
 use Rattle.std.specs.List.{position, slice_get}
 use Rattle.fields.specs.Lists.{all}
 use Rattle.fields.specs.Nest.{Nest}
 use Rattle.levels.specs.Levels.{around}
 use Rattle.levels.proofs.Nearest.{chain}
-use Rattle.finders.specs.Finding.{parent_of, parent_label}
-use Rattle.finders.specs.Nearer.{nearer}
+use Rattle.finders.specs.Finding.{best_label, parent_of, parent_label}
+use Rattle.finders.specs.Nearer.{nearer, innermost, Tells, Nested}
 use Rattle.finders.proofs.Placed.{position_none, position_at}
 
 module _ {X : Type 0} (t : X → Bool) (d : X) where
@@ -36,17 +37,17 @@ module _ {P V : Type 0} (N : Nest P V) (held : List P) (t : P → Bool) where
   Nearest upto (Some k) = Near upto k
 
   -- the test of the definitions: p passes and lies within all that pass
-  abbrev pub innermost : P → Bool
-  innermost p = t p && all (λ q. not (t q) || N.within p q) held
+  abbrev pub inmost : P → Bool
+  inmost p = t p && all (λ q. not (t q) || N.within p q) held
 
   -- of all patterns, that is the first which lies within all that pass
-  pub nearest_all : (n : ℕ) (o : Option ℕ) → length held ≡ n → Nearest n o → o ≡ position innermost held
-  nearest_all n None e h = sym (position_none innermost N.whole held (λ j l. and_left _ _ (h j (omega arith))))
+  pub nearest_all : (n : ℕ) (o : Option ℕ) → length held ≡ n → Nearest n o → o ≡ position inmost held
+  nearest_all n None e h = sym (position_none inmost N.whole held (λ j l. and_left _ _ (h j (omega arith))))
   nearest_all n (Some k) e h =
       let d = N.whole in
       let at = λ (j : ℕ). get_or held j d in
       let far = λ (j : ℕ) (q : P). not (t q) || N.within (at j) q in
-      sym (position_at innermost d held k (omega (arith, h.low))
+      sym (position_at inmost d held k (omega (arith, h.low))
       (and_from _ _ h.passes (all_from (far k) d held (λ j l. ⊎_elim
       (λ (y : t (at j) ≡ true). or_right (not (t (at j))) _ (h.inner j (omega arith) y))
       (λ (y : t (at j) ≡ false). or_left _ _ (not_from_false _ y))
@@ -56,7 +57,7 @@ module _ {P V : Type 0} (N : Nest P V) (held : List P) (t : P → Bool) where
       (λ (y : t (at j) ≡ false). and_left _ _ y)
       (cases_Bool (t (at j)))))
 
-  module _ (chained : (a b : P) → t a ≡ true → t b ≡ true → (N.within a b ≡ true) ⊎ (N.within b a ≡ true)) where
+  module _ (chained : Nested N t) where
     abbrev at : ℕ → P
     at j = get_or held j N.whole
 
@@ -103,33 +104,49 @@ module _ {P V : Type 0} (N : Nest P V) (held : List P) (t : P → Bool) where
         let h = some_nearest n in
         rw (← add-one n) (elim (cases_Bool (t (at n))) [ inl e ↦ (Some (nearer N held h.0 n), nearest_takes n h.0 h.1 e) | inr e ↦ (h.0, nearest_passes n h.0 h.1 e) ])
 
-    pub nearest_held : Nearest (length held) (position innermost held)
+    pub nearest_held : Nearest (length held) (position inmost held)
     nearest_held =
         let h = some_nearest (length held) in
         subst (Nearest (length held)) (nearest_all (length held) h.0 refl h.1) h.1
 
-module _ {P V : Type 0} (N : Nest P V) (held : List P) (n : ℕ) (o : Option ℕ) where
-  -- patterns that match v nest
-  module _ (v : V) where
-    pub matching_takes : Nearest N held (λ q. N.matches q v) n o → N.matches (get_or held n N.whole) v ≡ true → Nearest N held (λ q. N.matches q v) (n + 1) (Some (nearer N held o n))
-    matching_takes h e = nearest_takes N held (λ q. N.matches q v) (λ a b. N.nested a b v) n o h e
+module _ {P V : Type 0} (N : Nest P V) (held : List P) where
+  low_more : (n : ℕ) (o : Option ℕ) → IfSome o (λ k. k < n) → IfSome o (λ k. k < n + 1)
+  low_more n None h = tt
+  low_more n (Some k) h = omega (arith, h)
 
-    pub matching_passes : Nearest N held (λ q. N.matches q v) n o → N.matches (get_or held n N.whole) v ≡ false → Nearest N held (λ q. N.matches q v) (n + 1) o
-    matching_passes h e = nearest_passes N held (λ q. N.matches q v) (λ a b. N.nested a b v) n o h e
+  nearer_low : (n : ℕ) (o : Option ℕ) → IfSome o (λ k. k < n) → nearer N held o n < n + 1
+  nearer_low n None h = omega arith
+  nearer_low n (Some k) h = cond_both (around N.within (get_or held n N.whole) (get_or held k N.whole)) n k (λ j. j < n + 1) (λ a. omega arith) (λ a. omega (arith, h))
 
-  -- patterns around p do
-  module _ (p : P) where
-    pub around_takes : Nearest N held (around N.within p) n o → around N.within p (get_or held n N.whole) ≡ true → Nearest N held (around N.within p) (n + 1) (Some (nearer N held o n))
-    around_takes h e = nearest_takes N held (around N.within p) (chain N p) n o h e
+  -- what the loop keeps of the first n patterns, for whatever the test tells
+  pub record Going (test : P → Bool → Type 0) (n : ℕ) (o : Option ℕ) : Type 0 where
+    pub low : IfSome o (λ k. k < n)
+    pub near : (t : P → Bool) → Tells test t → Nested N t → Nearest N held t n o
 
-    pub around_passes : Nearest N held (around N.within p) n o → around N.within p (get_or held n N.whole) ≡ false → Nearest N held (around N.within p) (n + 1) o
-    around_passes h e = nearest_passes N held (around N.within p) (chain N p) n o h e
+  module _ (test : P → Bool → Type 0) (n : ℕ) (o : Option ℕ) where
+    -- one pattern more, to which the test answers
+    module _ (h : Going test n o) (p : P) (m : p ≡ get_or held n p) (l : n < length held) (b : Bool) (e : test p b) where
+      told : (t : P → Bool) → Tells test t → t (get_or held n N.whole) ≡ b
+      told t w = ap t (get_or_default held n N.whole p l ∙ sym m) ∙ sym (w p b e)
+
+      pub going_takes : b ≡ true → (m : ℕ) → m ≡ nearer N held o n → (new : Option ℕ) → new ≡ Some m → Going test (n + 1) new
+      going_takes y m e new f = subst (Going test (n + 1)) (sym (f ∙ ap Some e))
+          (record { low = nearer_low n o h.low; near = λ t w c. nearest_takes N held t c n o (h.near t w c) (told t w ∙ y) })
+
+      pub going_passes : b ≡ false → Going test (n + 1) o
+      going_passes y = record { low = low_more n o h.low; near = λ t w c. nearest_passes N held t c n o (h.near t w c) (told t w ∙ y) }
+
+    pub going_all : length held ≡ n → Going test n o → (t : P → Bool) → Tells test t → Nested N t → o ≡ innermost N held t
+    going_all e h t w c = nearest_all N held t n o e (h.near t w c)
+
+  -- patterns that match v nest, and so do those around p
+  module _ (test : P → Bool → Type 0) (o : Option ℕ) (h : (t : P → Bool) → Tells test t → Nested N t → o ≡ innermost N held t) where
+    pub best_found : (v : V) → Tells test (λ p. N.matches p v) → o ≡ best_label N held v
+    best_found v w = h (λ p. N.matches p v) w (λ a b. N.nested a b v)
+
+    pub parent_found : (l : ℕ) (p : P) → Tells test (around N.within p) → Some p ≡ slice_get held l → o ≡ parent_label N held l
+    parent_found l p w e = h (around N.within p) w (chain N p) ∙ ap (parent_of N held) e
 
 -- the nearest around the pattern of a label
 pub parent_is : {P V : Type 0} (N : Nest P V) (held : List P) (l : ℕ) (p : P) (n : ℕ) (o : Option ℕ) → Some p ≡ slice_get held l → length held ≡ n → Nearest N held (around N.within p) n o → o ≡ parent_label N held l
 parent_is N held l p n o e m h = nearest_all N held (around N.within p) n o m h ∙ ap (parent_of N held) e
-
--- what the loops of the scan keep, and what they find
-pub ruleset best_steps = (matching_takes, matching_passes, nearest_all)
-
-pub ruleset parent_steps = (around_takes, around_passes, parent_is)

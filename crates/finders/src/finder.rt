@@ -6,6 +6,9 @@ ghost use Rattle.finders.specs.Finding.{label_place, take_label, take_held, best
 use fields::kind::FieldKind;
 use fields::numbers::Label;
 
+// How many patterns each finder here can hold: the whole pattern, and one for each of 256 rules.
+pub const ROOM: usize = 257;
+
 pub trait Finder {
     type Pattern: Copy;
 
@@ -15,6 +18,7 @@ pub trait Finder {
     type Kind: FieldKind<Pattern = Self::Pattern, Value = Self::Value>;
 
     // The finder was cleared, and owes its meaning.
+    // It stays in the clauses: an implementation may leave it open until `clear`, so that a new one may hold anything. All that are here hold it from the start.
     ghost ready: { Self → Type 0 };
 
     // The patterns that it holds, by their labels.

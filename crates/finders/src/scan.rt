@@ -1,16 +1,13 @@
 // A finder that looks at every pattern in turn, for every kind.
-ghost use Rattle.std.specs.Prelude.{◌≡◌, ◌<◌, ◌≤◌, [], IfSome, IfOk, vec_len, vec_capacity};
-ghost use Rattle.finders.specs.Finding.{known as known_place};
-ghost use Rattle.finders.specs.Nearer.{nearer as nearer_place};
+ghost use Rattle.std.specs.Prelude.{◌≡◌, ◌<◌, ◌≤◌, Bool, [], IfSome, IfOk, vec_len, vec_capacity};
+ghost use Rattle.finders.specs.Finding.{label_place, known as known_place};
+ghost use Rattle.finders.specs.Nearer.{nearer as nearer_place, innermost as innermost_place, Tells, Nested};
 
-use crate::finder::Finder;
+use crate::finder::{Finder, ROOM};
 use fields::kind::FieldKind;
 use fields::numbers::Label;
 use levels::nesting::{around, same};
 use std::alloc::{AllocError, Global};
-
-// How many patterns a scan can hold: the whole pattern, and one for each of 256 rules.
-const ROOM: usize = 257;
 
 // The label of a place.
 fn label_at(place: usize) -> Label
@@ -56,6 +53,20 @@ impl<K: FieldKind> Scan<K> {
             _ => i,
         }
     }
+
+    // The label of the pattern that passes a test and lies within all that pass, where those nest.
+    fn innermost<T: Fn(K::Pattern) -> bool>(&self, test: T) -> Option<Label>
+        requires { T.IsAlwaysCallable test }
+        ensures { (t : K.Pattern → Bool) → Tells (T.post test) t → Nested K.FieldKind.nest t → label_place result ≡ innermost_place K.FieldKind.nest self.now.patterns.items t }
+    {
+        let mut found = None;
+        for (i, p) in self.patterns.iter().enumerate() {
+            if test(*p) {
+                found = Some(self.nearer(found, i));
+            }
+        }
+        found.map(label_at)
+    }
 }
 
 impl<K: FieldKind> Finder for Scan<K> {
@@ -87,27 +98,13 @@ impl<K: FieldKind> Finder for Scan<K> {
         Some(label_at(count))
     }
 
-    #[tactic(auto, using(crate::proofs::Nearest::best_steps))]
     fn best(&self, v: K::Value) -> Option<Label> {
-        let mut found = None;
-        for (i, p) in self.patterns.iter().enumerate() {
-            if K::matches(*p, v) {
-                found = Some(self.nearer(found, i));
-            }
-        }
-        found.map(label_at)
+        self.innermost(|p| K::matches(p, v))
     }
 
-    #[tactic(auto, using(crate::proofs::Nearest::parent_steps))]
     fn parent(&self, label: Label) -> Option<Label> {
         let p = self.pattern(label)?;
-        let mut found = None;
-        for (i, q) in self.patterns.iter().enumerate() {
-            if around::<K>(p, *q) {
-                found = Some(self.nearer(found, i));
-            }
-        }
-        found.map(label_at)
+        self.innermost(|q| around::<K>(p, q))
     }
 
     fn pattern(&self, label: Label) -> Option<K::Pattern> {

@@ -20,12 +20,14 @@ pub fn count_tuple(counted: &mut Vec<Counted>, tuple: Tuple)
     }
 }
 
-// The place of the tuple that most rules have, of several the first.
+// The place of the tuple that most rules have, of several the first. As `nearest`, but for what is compared: one function for both would take a
+// closure, whose clauses are longer than the loop.
 fn most(counted: &[Counted]) -> usize
     requires { 0 < length counted.now }
     ensures { Picked (λ c. c.rules) counted.now result }
 {
-    // By index: what is asked for is the place of the first best, and `max_by_key` tells no place, and takes the last.
+    // By index, as the library's own page on it has it: `max_by_key` keeps the last of several, and `min_by_key` tells only turn by turn that
+    // it keeps the first.
     let mut best = 0;
     for i in 1..counted.len() {
         if counted[i].rules > counted[best].rules {

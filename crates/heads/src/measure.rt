@@ -32,7 +32,7 @@ impl Tuple {
         ensures place { result ≡ nearest_head (levels_of self) (map levels_of heads.now) }
         ensures within { 0 < length heads.now → result < length heads.now }
     {
-        // By index: what is asked for is the place of the first best, and an iterator's `min_by_key` tells no place.
+        // By index, as the library's own page on it has it: `min_by_key` tells only turn by turn that it keeps the first of several.
         let mut best = 0;
         for i in 1..heads.len() {
             if self.distance(heads[i]) < self.distance(heads[best]) {

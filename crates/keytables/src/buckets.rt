@@ -24,7 +24,7 @@ struct Row {
     link: Option<u16>,
 }
 
-// Rows are named by their places, and all lie in one vector, since no call may allocate. A head is the place of a bucket's newest row.
+// Rows are named by their places, and all lie in one vector, since no call but `new` allocates. A head is the place of a bucket's newest row.
 #[derive(Drop)]
 pub struct Buckets {
     heads: Vec<Option<u16>>,
@@ -32,7 +32,7 @@ pub struct Buckets {
     tally: Tally,
     ghost wide: { vec_len heads ≡ 4096 },
     ghost reserved: { 2048 ≤ vec_capacity rows },
-    ghost sound: { Sound heads.items rows.items },
+    pub ghost sound: { Sound heads.items rows.items },
 }
 
 // One more number mixed into a hash.

@@ -2,11 +2,7 @@
 ghost use Rattle.std.specs.Prelude.{◌≡◌};
 ghost use Rattle.keytables.specs.Keys.{numbers_of};
 
-use fields::numbers::Label;
-use fields::perfield::PerField;
-
-// One label for each field.
-pub type Labels = PerField<Label>;
+pub use fields::perfield::Labels;
 
 #[derive(Clone, Copy, PartialEq, Eq, Debug)]
 pub struct Key {

@@ -11,6 +11,7 @@ pub struct Full;
 
 pub trait KeyTable {
     // The table was cleared, and owes its meaning.
+    // It stays in the clauses: an implementation may leave it open until `clear`, so that a new one may hold anything. All that are here hold it from the start.
     ghost ready: { Self → Type 0 };
 
     // What is stored under each key.

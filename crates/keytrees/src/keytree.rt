@@ -17,8 +17,8 @@ pub struct KeyTree {
     tree: Tree,
     count: u16,
     tally: Tally,
-    ghost few: { count ≤ 2048 },
-    ghost close: { length tree.nodes.items ≤ 6 * count + 1 },
+    pub ghost few: { count ≤ 2048 },
+    pub ghost close: { length tree.nodes.items ≤ 6 * count + 1 },
 }
 
 impl KeyTree {

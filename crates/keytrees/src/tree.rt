@@ -19,12 +19,12 @@ struct Node {
     entry: Option<u16>,
 }
 
-// The root stands at place 0. All nodes lie in one vector, since no call may allocate.
+// The root stands at place 0. All nodes lie in one vector, since no call but `new` allocates.
 #[derive(Drop)]
 pub struct Tree {
     nodes: Vec<Node>,
     ghost reserved: { 12289 ≤ vec_capacity nodes },
-    ghost grown: { Grown nodes.items },
+    pub ghost grown: { Grown nodes.items },
 }
 
 impl Tree {
@@ -45,6 +45,7 @@ impl Tree {
     }
 
     // The child of a node for a number.
+    // That a place lies in the list is asked by clauses: it ties an argument to a list that grows, which no type holds while the list is borrowed.
     fn child(&self, parent: usize, number: u16) -> Option<usize>
         requires { parent < length self.now.nodes.items }
         ensures child { result ≡ child_of self.now.nodes.items parent number }

@@ -45,6 +45,7 @@ fn marked<K: FieldKind>(patterns: &[K::Pattern], q: K::Pattern) -> bool
 pub fn level<K: FieldKind>(patterns: &[K::Pattern], p: K::Pattern) -> Level
     ensures { result.around ≡ level_of K.FieldKind.nest.within K.FieldKind.nest.whole patterns.now p }
 {
+    // A loop, whose invariant bounds the count by what each counted pattern tells; of `filter` and `count` the sum was not proved to fit.
     let mut count = 0;
     if around::<K>(p, K::whole()) {
         count = 1;

@@ -8,7 +8,7 @@ use itoa::Buffer;
 #[derive(Drop)]
 pub(crate) struct Cursor<'a> {
     out: &'a mut [u8],
-    // how many bytes came so far
+    // How many bytes came so far. It stands beside the output, whose length stays, since what does not fit is counted too.
     pub(crate) count: usize,
 }
 

@@ -1,23 +1,19 @@
 // From the bytes of a file to what a program prints.
 #![tactic(auto)]
 
-ghost use Rattle.std.specs.Prelude.{◌≡◌, IfOk, IfErr, string_bytes};
-ghost use Rattle.fields.specs.declared.refusal.Refusal.TheVariants.{Memory};
+ghost use Rattle.std.specs.Prelude.{◌≡◌, IfOk, string_bytes};
 ghost use Rattle.listing.specs.Listing.{sheet_text};
 
 use fields::refusal::Refusal;
 use reader::sheet::rules_of_sheet;
 use sheets::fault::Fault;
-use std::alloc::Global;
+use std::alloc::{AllocError, Global};
+use texts::MOST_BYTES;
 use texts::lines::{fault_line, rules_lines};
 
-// A file of more bytes is refused.
-pub const MOST_BYTES: usize = 65536;
-
 // The rules of a sheet as lines of text, or a line with its fault.
-pub fn sheet_text(heap: Global, bytes: &[u8]) -> Result<String, Refusal>
+pub fn sheet_text(heap: Global, bytes: &[u8]) -> Result<String, AllocError>
     ensures text { IfOk result (λ t. string_bytes t ≡ sheet_text bytes.now) }
-    ensures want { IfErr result (λ e. e ≡ Memory) }
 {
     if bytes.len() > MOST_BYTES {
         return fault_line(heap, Fault::at(Refusal::NoRoom, 0));

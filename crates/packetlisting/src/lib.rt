@@ -1,10 +1,7 @@
 // From the bytes of a packet to what a program prints of it.
 #![tactic(auto)]
 
-ghost use Rattle.std.specs.Prelude.{◌≡◌, length, IfOk, IfErr, Some, string_bytes};
-ghost use Rattle.fields.specs.Refusals.{code};
-ghost use Rattle.fields.specs.declared.refusal.Refusal.TheVariants.{Memory};
-ghost use Rattle.lines.specs.Lines.{refusal_line};
+ghost use Rattle.std.specs.Prelude.{◌≡◌, length, IfOk, Some, string_bytes};
 ghost use Rattle.packets.specs.Packets.{shown};
 ghost use Rattle.packetlisting.specs.PacketText.{header_text, name, rest_text, shown_text, packet_text};
 
@@ -12,13 +9,10 @@ use fields::refusal::Refusal;
 use packets::header::Header;
 use packets::packet::{Follows, Packet, Rest};
 use packets::reading::read_packet;
-use std::alloc::Global;
+use std::alloc::{AllocError, Global};
 use std::fmt;
-use std::fmt::Write;
-use texts::AddressText;
-
-// A file of more bytes is refused.
-pub const MOST_BYTES: usize = 65536;
+use texts::lines::line_of;
+use texts::{AddressText, MOST_BYTES};
 
 #[derive(Clone, Copy)]
 pub struct HeaderText(pub Header);
@@ -60,38 +54,24 @@ impl fmt::Display for RestText<'_> {
     }
 }
 
-// The line of a packet that is refused.
-fn refusal_text(heap: Global, refusal: Refusal) -> Result<String, Refusal>
-    ensures text { IfOk result (λ t. string_bytes t ≡ refusal_line (code refusal)) }
-    ensures want { IfErr result (λ e. e ≡ Memory) }
-{
-    let mut text = String::new(heap);
-    writeln!(text, "{refusal}")?;
-    Ok(text)
-}
-
 // The header of a packet and what follows it, a line each.
-fn lines_of_packet(heap: Global, packet: Packet<'_>) -> Result<String, Refusal>
+fn lines_of_packet(heap: Global, packet: Packet<'_>) -> Result<String, AllocError>
     ensures text { IfOk result (λ t. string_bytes t ≡ shown_text (shown packet.entry)) }
-    ensures want { IfErr result (λ e. e ≡ Memory) }
 {
-    let mut text = String::new(heap);
     let header = HeaderText(packet.header);
     let rest = RestText(packet.rest);
-    writeln!(text, "{header}\n{rest}")?;
-    Ok(text)
+    line_of(heap, format_args!("{header}\n{rest}"))
 }
 
 // What is printed of the bytes of a file that should be one packet.
-pub fn packet_text(heap: Global, bytes: &[u8]) -> Result<String, Refusal>
+pub fn packet_text(heap: Global, bytes: &[u8]) -> Result<String, AllocError>
     ensures text { IfOk result (λ t. string_bytes t ≡ packet_text bytes.now) }
-    ensures want { IfErr result (λ e. e ≡ Memory) }
 {
     if bytes.len() > MOST_BYTES {
-        return refusal_text(heap, Refusal::NoRoom);
+        return line_of(heap, Refusal::NoRoom);
     }
     match read_packet(bytes) {
         Ok(packet) => lines_of_packet(heap, packet),
-        Err(refusal) => refusal_text(heap, refusal),
+        Err(refusal) => line_of(heap, refusal),
     }
 }

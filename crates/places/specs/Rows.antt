@@ -1,7 +1,7 @@
 -- What the rows of a rule list mean to five kinds.
-use Rattle.std.specs.Prelude.{ℕ, zero, suc, Bool, false, [], ◌∷◌, Some, None, Ok, Err, Option, Result, ◌==◌}
-use Rattle.fields.specs.Lists.{any}
-use Rattle.fields.specs.Refusals.{first, refusal}
+use Rattle.std.specs.Prelude.{ℕ, zero, suc, Ok, Err, Option, Result}
+pub use Rattle.fields.specs.Checked.{is, some_place, first_refusal}
+use Rattle.fields.specs.Refusals.{refusal}
 use Rattle.fields.specs.declared.refusal.Refusal.{Refusal}
 use Rattle.groups.specs.Rules.{Rule}
 use Rattle.places.specs.Kinds.{Kind}
@@ -27,19 +27,6 @@ pattern_or_whole K (Err e) = K.nest.whole
 
 abbrev pub pattern_of : (K : Kind) → PatternRow → K.Pattern
 pattern_of K p = pattern_or_whole K (made K p)
-
--- the number o is this one
-abbrev pub is : Option ℕ → ℕ → Bool
-is None n = false
-is (Some m) n = m == n
-
--- some of the five places is refused with this number, where o has what each is refused with
-abbrev pub some_place : (ℕ → Option ℕ) → ℕ → Bool
-some_place o n = any (λ i. is (o i) n) (0 ∷ 1 ∷ 2 ∷ 3 ∷ 4 ∷ [])
-
--- a length that a kind lacks, at any place, is told before a bit beyond a length, at any
-abbrev pub first_refusal : (ℕ → Option ℕ) → Option ℕ
-first_refusal o = first (record { fails = some_place o 2; refuses = 2 } ∷ record { fails = some_place o 3; refuses = 3 } ∷ [])
 
 module _ (kind : ℕ → Kind) where
   -- what a row's patterns are refused with

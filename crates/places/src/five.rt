@@ -3,10 +3,10 @@ ghost use Rattle.std.specs.Prelude.{◌≡◌, ℕ, List};
 ghost use Rattle.places.specs.Kinds.{kind_at};
 ghost use Rattle.places.specs.Each.{each};
 
-use crate::checks::first_of;
 use crate::front::Front;
 use crate::located::{Labels, Located};
 use crate::spot::Spot;
+use fields::checked::first_of;
 use fields::numbers::Label;
 use fields::perfield::PerField;
 use fields::place::Place;

@@ -1,7 +1,6 @@
 // The five places of a rule, each with a kind and a finder of its own.
 #![tactic(auto)]
 
-mod checks;
 pub mod five;
 pub mod front;
 pub mod located;

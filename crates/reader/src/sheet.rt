@@ -29,7 +29,7 @@ impl WordsFrom<'_> {
     {
         let word = self.word()?;
         let rest = word.rest();
-        let Some(kind) = WordKind::of(word.bits) else {
+        let Ok(kind) = WordKind::try_from(word.bits) else {
             return Err(self.fault(Refusal::WordKind));
         };
         match kind {

@@ -68,7 +68,7 @@ pub(crate) struct WordsFrom<'a> {
 }
 
 impl<'a> WordsFrom<'a> {
-    // From n words further on.
+    // From n words further on. How far a place may be, each call asks for itself: no one bound holds of every cursor.
     pub(crate) fn on(self, n: usize) -> WordsFrom<'a>
         requires { self.place + n < 2 ^ 64 }
         ensures words { result.words.now ≡ self.entry.words.now }
@@ -106,7 +106,7 @@ impl<'a> WordsFrom<'a> {
         ensures { let ws = words_of self.entry.words.now in ReadsWord (form_refusal ws part self.entry.place) self.entry.place (pattern_at ws self.entry.place) result }
     {
         let word = self.word()?;
-        if WordKind::of(word.bits) != Some(part.kind()) {
+        if WordKind::try_from(word.bits) != Ok(part.kind()) {
             return Err(self.fault(Refusal::WordKind));
         }
         if !word.in_form(part) {

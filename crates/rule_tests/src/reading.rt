@@ -66,10 +66,9 @@ pub fn sheet_bytes() -> [u8; 72] {
 // The number, the place and the layer of a sheet's fault, where the list has two places and is left as it was.
 fn fault_of(bytes: &[u8]) -> Option<Fault> {
     let mut list = [untouched(); 2];
-    match read_sheet(bytes, &mut list) {
-        Err(fault) if list == [untouched(); 2] => Some(fault),
-        _ => None,
-    }
+    read_sheet(bytes, &mut list)
+        .err()
+        .filter(|_| list == [untouched(); 2])
 }
 
 // By the refusal's number, as the documents have it.

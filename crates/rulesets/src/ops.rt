@@ -14,6 +14,7 @@ impl RuleSet {
         RuleSet { words: [0; 4] }
     }
 
+    // Bits in words, as in a filter of keys; two lines there and here, where a crate for both would say no less.
     pub fn has(self, n: u8) -> bool
         ensures { result ≡ has_number self n }
     {

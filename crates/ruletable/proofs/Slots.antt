@@ -14,7 +14,8 @@ use Rattle.levels.proofs.Counts.{any_same, kept_all, kept_none, kept_same}
 use Rattle.groups.proofs.Tests.{any_kept_is}
 use Rattle.book.specs.Book.{stands, insert, without}
 use Rattle.rulesets.proofs.Members.{Ascending}
-use Rattle.ruletable.specs.Slots.{row_of, parts_of, rows_from, rows, row_in}
+use Rattle.sheets.specs.Fields.{row_of, parts_of}
+use Rattle.ruletable.specs.Slots.{rows_from, rows, row_in}
 
 abbrev pub Slot : Type 0
 Slot = Option (PerField PatternRow)

@@ -2,7 +2,8 @@
 ghost use Rattle.std.specs.Prelude.{◌≡◌, ◌<◌, false, [], map, Some, None, slice_index_or, slice_set};
 ghost use Rattle.book.specs.Book.{stands, insert, without};
 ghost use Rattle.rulesets.specs.Sets.{members};
-ghost use Rattle.ruletable.specs.Slots.{rows, row_in, parts_of};
+ghost use Rattle.sheets.specs.Fields.{parts_of};
+ghost use Rattle.ruletable.specs.Slots.{rows, row_in};
 
 use crate::table::RuleTable;
 use fields::perfield::PerField;
@@ -22,12 +23,7 @@ impl RuleTable {
         ensures { result ≡ row_in n (slice_index_or self.now.slots n None) }
     {
         let parts = self.slots[n as usize]?;
-        Some(RuleRow {
-            number: n as u32,
-            addresses: parts.addresses,
-            ports: parts.ports,
-            protocol: parts.protocol,
-        })
+        Some(RuleRow::new(u32::from(n), parts))
     }
 
     // Whether a rule of this number stands.
@@ -56,11 +52,7 @@ impl RuleTable {
         ensures slots { self.new.slots ≡ slice_set self.old.slots row.number (Some (parts_of row)) }
         ensures rows { stands row.number (rows self.old.slots) ≡ false → rows self.new.slots ≡ insert row (rows self.old.slots) }
     {
-        self.slots[row.number as usize] = Some(PerField {
-            addresses: row.addresses,
-            ports: row.ports,
-            protocol: row.protocol,
-        });
+        self.slots[row.number as usize] = Some(PerField::from(row));
     }
 
     // Strikes out the rule of a number, and changes no other.

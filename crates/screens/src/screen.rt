@@ -6,6 +6,7 @@ use keytables::key::Key;
 
 pub trait Screen {
     // The screen was cleared, and owes its meaning.
+    // It stays in the clauses: an implementation may leave it open until `clear`, so that a new one may hold anything. All that are here hold it from the start.
     ghost ready: { Self → Type 0 };
 
     // The keys to which it says yes.

@@ -1,4 +1,5 @@
 pub mod Faults
+pub mod Fields
 pub mod Rows
 pub mod Kinds
 pub mod Words

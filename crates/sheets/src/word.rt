@@ -1,5 +1,5 @@
 // The kinds of words.
-ghost use Rattle.std.specs.Prelude.{◌≡◌, ◌≢◌, MatchOption};
+ghost use Rattle.std.specs.Prelude.{◌≡◌, ◌≢◌, MatchResult};
 ghost use Rattle.sheets.specs.Kinds.{number_of};
 ghost use Rattle.sheets.specs.Words.{kind};
 ghost use Rattle.sheets.specs.declared.word.WordKind.{WordKind};
@@ -23,19 +23,27 @@ impl WordKind {
     {
         self as u32
     }
+}
 
-    // The kind of a word, which its bits 31-29 number.
-    pub fn of(word: u32) -> Option<WordKind>
-        ensures { MatchOption result ((k : WordKind) → number_of k ≢ kind word) (λ k. number_of k ≡ kind word) }
-    {
+// A word of no kind.
+#[derive(Clone, Copy, PartialEq, Eq, Debug)]
+pub struct NoKind;
+
+// The kind of a word, which its bits 31-29 number.
+impl TryFrom<u32> for WordKind {
+    type Error = NoKind;
+
+    ghost try_from_gives = { λ word r. MatchResult r (λ k. number_of k ≡ kind word) (λ _. (k : WordKind) → number_of k ≢ kind word) };
+
+    fn try_from(word: u32) -> Result<WordKind, NoKind> {
         match word >> 29 {
-            1 => Some(WordKind::Rule),
-            2 => Some(WordKind::Upper),
-            3 => Some(WordKind::Lower),
-            4 => Some(WordKind::Port),
-            5 => Some(WordKind::Protocol),
-            6 => Some(WordKind::End),
-            _ => None,
+            1 => Ok(WordKind::Rule),
+            2 => Ok(WordKind::Upper),
+            3 => Ok(WordKind::Lower),
+            4 => Ok(WordKind::Port),
+            5 => Ok(WordKind::Protocol),
+            6 => Ok(WordKind::End),
+            _ => Err(NoKind),
         }
     }
 }

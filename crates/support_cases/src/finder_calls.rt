@@ -5,7 +5,7 @@ use fields::kind::FieldKind;
 use fields::numbers::{Label, PrefixLength};
 use finders::finder::Finder;
 
-// Header values that can be drawn.
+// Header values that can be drawn. One impl for each: what `from_word` keeps is as many of the highest bits as it has room for.
 pub trait Drawn: Copy {
     // The value of the highest bits.
     fn from_word(word: u32) -> Self;

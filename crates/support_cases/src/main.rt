@@ -5,7 +5,6 @@ use crate::finder_calls::{Compared, Drawn};
 use crate::screen_rounds::{Round, Screened, run_round};
 use fields::kind::FieldKind;
 use fields::prefixes::{Address, Port};
-use finders::finder::Finder;
 use finders::scan::Scan;
 use keytables::buckets::Buckets;
 use keytables::table::KeyTable;
@@ -14,6 +13,7 @@ use screens::bloom::Bloom;
 use screens::open::OpenScreen;
 use screens::screen::Screen;
 use std::io;
+use tries::spelled::Spelled;
 use tries::trie::Trie;
 
 mod finder_calls;
@@ -37,39 +37,23 @@ const TABLE_SEQUENCES: [table_calls::Sequence; 2] = [
     },
 ];
 
-// Two finders with short patterns, of which there are fewer than a finder has room for, and with patterns of all lengths.
-fn run_finders<A: Finder, B: Finder<Pattern = A::Pattern, Value = A::Value>>(
-    rt: &HostRuntime,
-    name: &str,
-    seed: u64,
-    one: &mut A,
-    other: &mut B,
-) -> io::Result<()>
+// A scan and a trie with short patterns, of which there are fewer than a finder has room for, and with patterns of all lengths.
+fn run_finders<K: Spelled>(rt: &HostRuntime, name: &str, seed: u64) -> io::Result<()>
 where
-    A::Value: Drawn,
+    K::Value: Drawn,
 {
-    for longest in [6, A::Kind::field_width()] {
+    let mut scan = Scan::<K::Kind>::new(rt.alloc())?;
+    let mut trie = Trie::<K>::new(rt.alloc())?;
+    for longest in [6, K::Kind::field_width()] {
         let sequence = finder_calls::Sequence {
             seed,
             calls: 50_000,
             longest,
         };
-        let Compared { report, held } = finder_calls::compare(one, other, sequence);
+        let Compared { report, held } = finder_calls::compare(&mut scan, &mut trie, sequence);
         println!(rt; "{name} of up to {longest} bits: {report}, {held} held")?;
     }
     Ok(())
-}
-
-fn run_addresses(rt: &HostRuntime) -> io::Result<()> {
-    let mut scan = Scan::<Address>::new(rt.alloc())?;
-    let mut trie = Trie::<Address>::new(rt.alloc())?;
-    run_finders(rt, "addresses", 1, &mut scan, &mut trie)
-}
-
-fn run_ports(rt: &HostRuntime) -> io::Result<()> {
-    let mut scan = Scan::<Port>::new(rt.alloc())?;
-    let mut trie = Trie::<Port>::new(rt.alloc())?;
-    run_finders(rt, "ports", 2, &mut scan, &mut trie)
 }
 
 fn run_tables(rt: &HostRuntime) -> io::Result<()> {
@@ -100,8 +84,8 @@ fn run_screens(rt: &HostRuntime) -> io::Result<()> {
 }
 
 fn main(rt: HostRuntime) -> io::Result<()> {
-    run_addresses(&rt)?;
-    run_ports(&rt)?;
+    run_finders::<Address>(&rt, "addresses", 1)?;
+    run_finders::<Port>(&rt, "ports", 2)?;
     run_tables(&rt)?;
     run_screens(&rt)
 }

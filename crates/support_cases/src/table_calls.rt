@@ -88,8 +88,8 @@ fn ask<T: KeyTable>(table: &mut T, call: Call) -> Answer
     }
 }
 
-// Beside the one for finders, with which it shares no line but the loop's: other calls are drawn, and the tallies are compared too.
 // Makes every call of a sequence to both tables, and looks at the tallies after each.
+// Its loop is that of the one for finders; what is drawn, asked and compared is not.
 pub fn compare<A: KeyTable, B: KeyTable>(one: &mut A, other: &mut B, sequence: Sequence) -> Report
     ensures one { A.KeyTable.ready one.new }
 {

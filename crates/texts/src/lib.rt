@@ -15,6 +15,9 @@ use std::net::Ipv4Addr;
 pub mod lines;
 pub mod notation;
 
+// A file of more bytes is not looked into.
+pub const MOST_BYTES: usize = 65536;
+
 // A number as an address.
 #[derive(Clone, Copy)]
 pub struct AddressText(pub u32);

@@ -5,10 +5,11 @@ ghost use Rattle.tries.specs.Nodes.{no_node, kid, tag, grown, marked, look, deep
 use crate::node::Node;
 use crate::path::BitPath;
 use fields::numbers::Label;
+use finders::finder::ROOM;
 use std::alloc::{AllocError, Global};
 
-// The root, and 32 nodes for each of 257 patterns.
-const MOST: usize = 8225;
+// The root, and 32 nodes for each pattern.
+const MOST: usize = 1 + 32 * ROOM;
 
 // A node with nothing further on and no label. A constant: with `Node::default()` the proof that a grown list is a tree did not close.
 const BARE: Node = Node {
@@ -19,10 +20,10 @@ const BARE: Node = Node {
 
 #[derive(Drop)]
 pub struct Nodes {
-    // The root stands first. No call allocates, so a node names others by their places in one list.
+    // The root stands first. No call but `new` allocates, so a node names others by their places in one list.
     pub(crate) list: Vec<Node>,
     ghost reserved: { 8225 ≤ vec_capacity list },
-    ghost tree: { Tree list.items },
+    pub ghost tree: { Tree list.items },
 }
 
 impl Nodes {
@@ -48,6 +49,7 @@ impl Nodes {
     }
 
     // The place one bit further on.
+    // That a place lies in the list is asked by clauses: it ties an argument to a list that grows, which no type holds while the list is borrowed.
     #[tactic(auto, unfolding(crate::specs::Nodes::kid))]
     fn next(&self, at: u16, bit: bool) -> Option<u16>
         requires { at < vec_len self.now.list }

@@ -3,7 +3,7 @@ ghost use Rattle.std.specs.Prelude.{◌≡◌, ◌≤◌, MatchOption};
 ghost use Rattle.std.specs.Iterator.{YieldsFirst, item_count};
 ghost use Rattle.tries.specs.Digits.{digit};
 
-// The first `length` bits of a number of `width` bits; 32 at most.
+// The bits that are still to come: the first `length` of the lowest `width` bits of a number; 32 at most.
 #[derive(Clone, Copy)]
 pub struct BitPath {
     pub(crate) number: u32,

@@ -6,18 +6,15 @@ ghost use Rattle.tries.specs.Ready.{Ready};
 use crate::nodes::Nodes;
 use crate::spelled::Spelled;
 use fields::numbers::Label;
-use finders::finder::Finder;
+use finders::finder::{Finder, ROOM};
 use std::alloc::{AllocError, Global};
-
-// How many patterns a trie can hold: the whole pattern, and one for each of 256 rules.
-const ROOM: usize = 257;
 
 #[derive(Drop)]
 pub struct Trie<K: Spelled> {
     patterns: Vec<K::Pattern>,
     nodes: Nodes,
     ghost reserved: { 257 ≤ vec_capacity patterns },
-    ghost ready: { Ready K.Spelled.spelling nodes.list.items patterns.items },
+    pub ghost ready: { Ready K.Spelled.spelling nodes.list.items patterns.items },
 }
 
 impl<K: Spelled> Trie<K> {

@@ -1,4 +1,4 @@
 use Rattle.bench_exports.proofs.lookup.fill.Given as goal
 
-abbrev pub invariant-loop-row : goal.invariant-loop-row
-invariant-loop-row g l = g.T.KeyTable.ready l.table
+abbrev pub invariant-loop-place : goal.invariant-loop-place
+invariant-loop-place g l = g.T.KeyTable.ready l.table

@@ -1,16 +1,16 @@
 // The refusal of a row, from those of its five parts.
 ghost use Rattle.std.specs.Prelude.{◌≡◌};
+ghost use Rattle.fields.specs.Checked.{first_refusal};
 ghost use Rattle.fields.specs.Places.{at};
 ghost use Rattle.fields.specs.Refusals.{refusal};
-ghost use Rattle.places.specs.Rows.{first_refusal};
 
-use fields::perfield::PerField;
-use fields::refusal::Refusal;
+use crate::perfield::PerField;
+use crate::refusal::Refusal;
 
-pub(crate) type Check = Result<(), Refusal>;
+pub type Check = Result<(), Refusal>;
 
 // A length that a kind lacks, at any place, is told before a bit beyond a length, at any.
-pub(crate) fn first_of(checks: PerField<Check>) -> Check
+pub fn first_of(checks: PerField<Check>) -> Check
     ensures { refusal result ≡ first_refusal (λ i. refusal (at checks i)) }
 {
     let checks = checks.in_order();

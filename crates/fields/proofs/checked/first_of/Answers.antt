@@ -2,10 +2,10 @@ use Rattle.std.proofs.Common.{sym, ◌∙◌, rules, tests}
 use Rattle.std.proofs.lemmas.Bool.{cond-true, cond-false}
 use Rattle.std.proofs.lemmas.Iterator.{YieldsList-from_slice}
 use Rattle.std.proofs.lemmas.Iterator.Search.{any_from_yields_List}
+use Rattle.fields.specs.Checked.{is}
 use Rattle.fields.specs.Places.{listed}
 use Rattle.fields.specs.Refusals.{refusal}
-use Rattle.places.specs.Rows.{is}
-use Rattle.places.proofs.checks.first_of.Goals as goal
+use Rattle.fields.proofs.checked.first_of.Goals as goal
 
 pub returns-then-any : goal.returns-then-any
 returns-then-any c =
