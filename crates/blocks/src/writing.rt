@@ -10,13 +10,28 @@ use packets::header::Header;
 fn bytes_of_header(header: Header) -> [u8; HEADER_BYTES]
     ensures { result ≡ header_bytes header }
 {
-    let mut bytes = [0; HEADER_BYTES];
-    bytes[0..4].copy_from_slice(&header.addresses.source.to_be_bytes());
-    bytes[4..8].copy_from_slice(&header.addresses.destination.to_be_bytes());
-    bytes[8..10].copy_from_slice(&header.ports.source.to_be_bytes());
-    bytes[10..12].copy_from_slice(&header.ports.destination.to_be_bytes());
-    bytes[12] = header.protocol;
-    bytes
+    let [s0, s1, s2, s3] = header.addresses.source.to_be_bytes();
+    let [d0, d1, d2, d3] = header.addresses.destination.to_be_bytes();
+    let [p0, p1] = header.ports.source.to_be_bytes();
+    let [q0, q1] = header.ports.destination.to_be_bytes();
+    [
+        s0,
+        s1,
+        s2,
+        s3,
+        d0,
+        d1,
+        d2,
+        d3,
+        p0,
+        p1,
+        q0,
+        q1,
+        header.protocol,
+        0,
+        0,
+        0,
+    ]
 }
 
 // Writes the block of some headers at the front of the output.

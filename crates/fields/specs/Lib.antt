@@ -7,3 +7,4 @@ pub mod PrefixLaws
 pub mod Lists
 pub mod Places
 pub mod Checked
+pub mod Links

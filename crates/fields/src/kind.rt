@@ -19,10 +19,7 @@ pub trait FieldKind {
     ghost nest: { Nest Self.Pattern Self.Value };
 
     fn field_width() -> u8
-        ensures { result ≡ nest.width }
-    {
-        Self::WIDTH
-    }
+        ensures { result ≡ nest.width };
 
     // The pattern of a length and a number, or a refusal.
     fn make(length: PrefixLength, number: u32) -> Result<Self::Pattern, Refusal>
@@ -44,7 +41,9 @@ pub trait FieldKind {
     // Whether a lies within b.
     fn within(a: Self::Pattern, b: Self::Pattern) -> bool
         ensures { result ≡ nest.within a b };
+}
 
-    // The constant is the width of the nest.
-    ghost wide: { WIDTH ≡ nest.width };
+// A kind whose constant is the width that its laws speak of. A law of its own, since no call that takes a kind needs it.
+pub trait KnownWidth: FieldKind {
+    ghost wide: { Self.FieldKind.WIDTH ≡ Self.FieldKind.nest.width };
 }

@@ -5,6 +5,7 @@ pub mod bits;
 pub mod checked;
 mod checks;
 pub mod kind;
+pub mod link;
 pub mod numbers;
 pub mod perfield;
 pub mod place;

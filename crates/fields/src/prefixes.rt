@@ -5,7 +5,7 @@ ghost use Rattle.fields.specs.PrefixLaws.{prefix_nest};
 
 use crate::bits::Bits;
 use crate::checks::{first_bits, has_length, is_clean, lowest};
-use crate::kind::FieldKind;
+use crate::kind::{FieldKind, KnownWidth};
 use crate::numbers::PrefixLength;
 use crate::prefix::Prefix;
 use crate::refusal::Refusal;
@@ -71,7 +71,9 @@ impl<V: Bits + Copy, const W: u8, const S: u8> FieldKind for Prefixes<V, W, S> {
 
     ghost nest = { prefix_nest W S V.Bits.numbering };
 
-    ghost wide = { refl };
+    fn field_width() -> u8 {
+        Self::WIDTH
+    }
 
     fn make(length: PrefixLength, number: u32) -> Result<Prefix<W, S>, Refusal> {
         Prefix::new(length, number)
@@ -100,4 +102,8 @@ impl<V: Bits + Copy, const W: u8, const S: u8> FieldKind for Prefixes<V, W, S> {
     fn within(a: Prefix<W, S>, b: Prefix<W, S>) -> bool {
         a.lies_within(b)
     }
+}
+
+impl<V: Bits + Copy, const W: u8, const S: u8> KnownWidth for Prefixes<V, W, S> {
+    ghost wide = { refl };
 }

@@ -4,7 +4,6 @@
 ghost use Rattle.std.specs.Prelude.{◌≤◌, IfOk, vec_len};
 
 use fields::refusal::Refusal;
-use std::alloc::AllocError;
 use std::fs::File;
 use std::io;
 use std::io::{ErrorKind, Read};
@@ -27,10 +26,13 @@ pub fn file_bytes(rt: &HostRuntime, path: &str) -> io::Result<Vec<u8>>
     Ok(bytes)
 }
 
-// Prints a text, or the refusal for want of memory in its place.
-pub fn print_text(rt: &HostRuntime, text: Result<String, AllocError>) -> io::Result<()> {
-    match text.map_err(Refusal::from) {
+// Prints a text, or the refusal that came in its place.
+pub fn print_text<E: Into<Refusal>>(rt: &HostRuntime, text: Result<String, E>) -> io::Result<()> {
+    match text {
         Ok(text) => rt.print(text.as_str()),
-        Err(refusal) => println!(rt; "{refusal}"),
+        Err(why) => {
+            let refusal: Refusal = why.into();
+            println!(rt; "{refusal}")
+        }
     }
 }

@@ -7,6 +7,7 @@ ghost use Rattle.keytables.specs.declared.key.Key.{Key};
 use crate::key::Key;
 use crate::table::{Full, KeyTable};
 use crate::tally::Tally;
+use fields::link::{Link, NOWHERE};
 use std::alloc::{AllocError, Global};
 
 const ROWS: usize = 2048;
@@ -21,13 +22,13 @@ const SPREAD: u64 = 0x9E37_79B9_7F4A_7C15;
 struct Row {
     key: Key,
     entry: u16,
-    link: Option<u16>,
+    link: Link,
 }
 
 // Rows are named by their places, and all lie in one vector, since no call but `new` allocates. A head is the place of a bucket's newest row.
 #[derive(Drop)]
 pub struct Buckets {
-    heads: Vec<Option<u16>>,
+    heads: Vec<Link>,
     rows: Vec<Row>,
     tally: Tally,
     ghost wide: { vec_len heads ≡ 4096 },
@@ -61,7 +62,7 @@ impl Buckets {
     pub fn new(heap: Global) -> Result<Self, AllocError>
         ensures { IfOk result (λ t. ((q : Key) → stored t.rows.items q ≡ None) × (length t.rows.items ≡ 0) × (t.tally.asked ≡ 0)) }
     {
-        let heads = vec![in heap; None; BUCKETS]?;
+        let heads = vec![in heap; NOWHERE; BUCKETS]?;
         let rows = Vec::with_capacity(heap, ROWS)?;
         Ok(Buckets {
             heads,
@@ -75,14 +76,14 @@ impl Buckets {
         ensures row { result ≡ row_of self.now.rows.items key }
         ensures within { IfSome result (λ i. i < length self.now.rows.items) }
     {
-        let mut link = self.heads[bucket_of(key)];
+        let mut link = self.heads[bucket_of(key)].place();
         while let Some(place) = link {
             let i = usize::from(place);
             let row = &self.rows[i];
             if row.key == key {
                 return Some(i);
             }
-            link = row.link;
+            link = row.link.place();
         }
         None
     }
@@ -97,7 +98,7 @@ impl Buckets {
     {
         let bucket = bucket_of(key);
         let link = self.heads[bucket];
-        self.heads[bucket] = Some(self.rows.len() as u16);
+        self.heads[bucket] = Link::to(self.rows.len() as u16);
         self.rows.push_reserved(Row { key, entry, link });
     }
 }
@@ -115,7 +116,7 @@ impl KeyTable for Buckets {
 
     fn clear(&mut self) {
         self.rows.clear();
-        self.heads.fill(None);
+        self.heads.fill(NOWHERE);
     }
 
     #[tactic(auto, using(crate::proofs::Rows::stored_set), unfolding(crate::specs::Rows::stored))]

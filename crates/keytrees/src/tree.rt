@@ -2,6 +2,7 @@
 ghost use Rattle.std.specs.Prelude.{◌≡◌, ◌+◌, ◌<◌, ◌≤◌, [], ◌∷◌, length, is_some, IfSome, IfOk, Some, None, vec_capacity, slice_index_or, slice_set};
 ghost use Rattle.keytrees.specs.Nodes.{no_node, with_entry, child_of, end_of, held, Grown, Kept};
 
+use fields::link::Link;
 use std::alloc::{AllocError, Global};
 
 // Six nodes for each of 2,048 keys, and the root.
@@ -11,11 +12,11 @@ const NODES: usize = 12289;
 #[derive(Clone, Copy, Default)]
 struct Node {
     // None at the root. The calls only write it: what they promise speaks of it.
-    parent: Option<u16>,
+    parent: Link,
     number: u16,
     // The newest child, and the next older child of the same parent.
-    first: Option<u16>,
-    next: Option<u16>,
+    first: Link,
+    next: Link,
     entry: Option<u16>,
 }
 
@@ -51,14 +52,14 @@ impl Tree {
         ensures child { result ≡ child_of self.now.nodes.items parent number }
         ensures within { IfSome result (λ c. c < length self.now.nodes.items) }
     {
-        let mut link = self.nodes[parent].first;
+        let mut link = self.nodes[parent].first.place();
         while let Some(place) = link {
             let place = usize::from(place);
             let node = &self.nodes[place];
             if node.number == number {
                 return Some(place);
             }
-            link = node.next;
+            link = node.next.place();
         }
         None
     }
@@ -76,9 +77,9 @@ impl Tree {
         let place = self.nodes.len();
         let node = &mut self.nodes[parent];
         let next = node.first;
-        node.first = Some(place as u16);
+        node.first = Link::to(place as u16);
         self.nodes.push_reserved(Node {
-            parent: Some(parent as u16),
+            parent: Link::to(parent as u16),
             number,
             next,
             ..Node::default()

@@ -33,10 +33,13 @@ impl<'a> Cursor<'a> {
         self.count = end;
     }
 
-    // Puts a number in decimal.
+    // Puts a number in decimal. Many have one digit, which is put as it is.
     pub(crate) fn put_number(&mut self, n: usize)
         ensures { Put self.old (decimal n) self.new }
     {
+        if n < 10 {
+            return self.put(&[b'0' + n as u8]);
+        }
         let mut digits = Buffer::new();
         self.put(digits.format(n).as_bytes());
     }

@@ -41,6 +41,10 @@ pub fn write_header_line(
     ensures count { IfOk result (λ n. n ≡ length (header_line index rules.now hits)) }
     ensures out { out.new ≡ written (write_refusal (header_line index rules.now hits) (length out.old)) (header_line index rules.now hits) out.old }
 {
+    // A space stands before each rule, so a list that is longer than the output is not gone through.
+    if out.len() < rules.len() {
+        return Err(Refusal::NoRoom);
+    }
     write_line(&HeaderLine { index, rules, hits }, out)
 }
 

@@ -5,10 +5,10 @@ ghost use Rattle.std.specs.Prelude.{◌≡◌, IfOk, string_bytes};
 ghost use Rattle.listing.specs.Listing.{sheet_text};
 
 use fields::refusal::Refusal;
-use reader::sheet::rules_of_sheet;
+use reader::sheet::{Rules, fill_rules};
 use sheets::fault::Fault;
 use std::alloc::{AllocError, Global};
-use texts::MOST_BYTES;
+pub use texts::MOST_BYTES;
 use texts::lines::{fault_line, rules_lines};
 
 // The rules of a sheet as lines of text, or a line with its fault.
@@ -18,8 +18,9 @@ pub fn sheet_text(heap: Global, bytes: &[u8]) -> Result<String, AllocError>
     if bytes.len() > MOST_BYTES {
         return fault_line(heap, Fault::at(Refusal::NoRoom, 0));
     }
-    match rules_of_sheet(bytes) {
-        Ok(rules) => rules_lines(heap, rules.as_slice()),
+    let mut rules = Rules::new();
+    match fill_rules(bytes, &mut rules) {
+        Ok(()) => rules_lines(heap, rules.as_slice()),
         Err(fault) => fault_line(heap, fault),
     }
 }

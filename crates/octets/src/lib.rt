@@ -28,8 +28,10 @@ pub fn bytes_at<const N: usize>(bytes: &[u8], place: usize) -> [u8; N]
     ensures four { N ≡ 4 → from_be_bytes w32 result ≡ four bytes.now place }
 {
     let rest = rest_from(bytes, place);
-    let count = rest.len().min(N);
+    if let Some(found) = rest.first_chunk::<N>() {
+        return *found;
+    }
     let mut found = [0; N];
-    found[..count].copy_from_slice(&rest[..count]);
+    found[..rest.len()].copy_from_slice(rest);
     found
 }

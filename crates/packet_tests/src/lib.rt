@@ -7,3 +7,5 @@ mod blocks_there_and_back;
 mod line_bytes;
 #[cfg(test)]
 mod parts;
+#[cfg(test)]
+mod printed;

@@ -11,8 +11,9 @@ use packets::packet::{Follows, Packet, Rest};
 use packets::reading::read_packet;
 use std::alloc::{AllocError, Global};
 use std::fmt;
+use texts::AddressText;
+pub use texts::MOST_BYTES;
 use texts::lines::line_of;
-use texts::{AddressText, MOST_BYTES};
 
 #[derive(Clone, Copy)]
 pub struct HeaderText(pub Header);

@@ -2,11 +2,10 @@
 use Rattle.std.proofs.Common.{◌≡◌, ℕ, ◌/◌, ◌%◌, false, eqb, List, length, MatchResult, Ok, Err, Result, sym, ap, ◌∙◌}
 use Rattle.std.specs.Simd.{first_chunks}
 use Rattle.std.proofs.lemmas.Bool.{eq-eqb, le-leb, or_from, not_from_true, cond-true, cond-false}
-use Rattle.arrayvec.specs.ArrayVec.{ArrayVec}
 use Rattle.sheets.specs.Reading.{Verdict, accepted, words_read, sheet_read}
 use Rattle.sheets.specs.declared.row.RuleRow.{RuleRow}
 use Rattle.sheets.specs.declared.fault.Fault.{Fault}
-use Rattle.reader.specs.Readers.{words_of, ComesTo, faulty, Found, Tells}
+use Rattle.reader.specs.Readers.{words_of, ComesTo, faulty, Fills, FillsFrom}
 use Rattle.reader.proofs.Bytes.{words_of_chunks}
 
 -- the bytes are whole words, and some
@@ -20,12 +19,12 @@ module _ (bs : List ℕ) (some : eqb (length bs) 0 ≡ false) (whole : length bs
       cond-false _ _ _ (or_from _ _ some (not_from_true _ (eq-eqb (length bs % 4) 0 whole)))
       ∙ ap (λ (ws : List ℕ). words_read ws places) (sym (words_of_chunks bs)) ∙ h places
 
-  pub told : (r : Result (ArrayVec RuleRow) Fault) → Found (words_of chunks) r → Tells bs r
-  told (Ok v) h = sheet_comes_to _ h.0
-  told (Err f) h = sheet_comes_to _ h
+  pub told : {X : Type 0} (rs : List RuleRow) (r : Result X Fault) → Fills (words_of chunks) rs r → FillsFrom bs rs r
+  told rs (Ok u) h = sheet_comes_to _ h.0
+  told rs (Err f) h = sheet_comes_to _ h
 
 -- there is room for as many rules as a sheet can have
-pub told_here : (cs : List ℕ) (bs : List ℕ) (r : Result (ArrayVec RuleRow) Fault) → Found cs r → Tells bs r
-    → MatchResult r (λ v. sheet_read bs 256 ≡ accepted v.items) (λ f. sheet_read bs 256 ≡ faulty f)
-told_here cs bs (Ok v) h t = t 256 ∙ cond-true _ _ _ (le-leb (length v.items) 256 h.1)
-told_here cs bs (Err f) h t = t 256
+pub told_here : {X : Type 0} (cs : List ℕ) (bs : List ℕ) (rs : List RuleRow) (r : Result X Fault) → Fills cs rs r → FillsFrom bs rs r
+    → MatchResult r (λ u. sheet_read bs 256 ≡ accepted rs) (λ f. sheet_read bs 256 ≡ faulty f)
+told_here cs bs rs (Ok u) h t = t 256 ∙ cond-true _ _ _ (le-leb (length rs) 256 h.1)
+told_here cs bs rs (Err f) h t = t 256

@@ -80,12 +80,17 @@ holding rs places = cond (nat_le (length rs) places) (accepted rs) (fault 9 0)
 abbrev pub Broken : List ℕ → Fault → Type 0
 Broken ws f = ComesTo ws (λ places. faulty f)
 
--- its rules, or its fault
-abbrev pub Found : List ℕ → Result (ArrayVec RuleRow) Fault → Type 0
-Found ws (Ok v) = ComesTo ws (holding v.items) × (length v.items ≤ 256)
-Found ws (Err f) = Broken ws f
+-- its rules, which a list then holds, or its fault
+abbrev pub Fills : {X : Type 0} → List ℕ → List RuleRow → Result X Fault → Type 0
+Fills ws rs (Ok u) = ComesTo ws (holding rs) × (length rs ≤ 256)
+Fills ws rs (Err f) = Broken ws f
 
 -- the same of the bytes of a sheet
+abbrev pub FillsFrom : {X : Type 0} → List ℕ → List RuleRow → Result X Fault → Type 0
+FillsFrom bs rs (Ok u) = (places : ℕ) → sheet_read bs places ≡ holding rs places
+FillsFrom bs rs (Err f) = (places : ℕ) → sheet_read bs places ≡ faulty f
+
+-- and where the rules are answered
 abbrev pub Tells : List ℕ → Result (ArrayVec RuleRow) Fault → Type 0
 Tells bs (Ok v) = (places : ℕ) → sheet_read bs places ≡ holding v.items places
 Tells bs (Err f) = (places : ℕ) → sheet_read bs places ≡ faulty f

@@ -1,10 +1,10 @@
 // The sheet reader.
-ghost use Rattle.std.specs.Prelude.{◌≡◌, ◌+◌, ◌*◌, ◌^◌, ◌<◌, ◌≤◌, [], ◌∷◌, length, IfSome, IfOk, MatchResult};
+ghost use Rattle.std.specs.Prelude.{◌≡◌, ◌+◌, ◌*◌, ◌^◌, ◌<◌, ◌≤◌, [], length, IfSome, IfOk, MatchResult};
 ghost use Rattle.fields.specs.Refusals.{code};
 ghost use Rattle.fields.specs.declared.refusal.Refusal.TheVariants.{SheetEnd};
 ghost use Rattle.sheets.specs.Faults.{fault_at};
 ghost use Rattle.sheets.specs.Reading.{Answers, accepted, refused, least, listed, sheet_read};
-ghost use Rattle.reader.specs.Readers.{words_of, ReadsWord, opening_due, opened, Found, Tells};
+ghost use Rattle.reader.specs.Readers.{words_of, ReadsWord, opening_due, opened, Fills, FillsFrom, Tells};
 
 use crate::words::WordsFrom;
 use arrayvec::ArrayVec;
@@ -55,19 +55,18 @@ impl WordsFrom<'_> {
     }
 }
 
-// The rules of the words of a sheet.
+// The rules of the words of a sheet, put into an empty list.
 #[tactic(auto, using(crate::proofs::Turns::turns))]
-fn read_rules(words: &[[u8; 4]]) -> Result<Rules, Fault>
-    ensures { Found (words_of words.now) result }
+fn read_rules(words: &[[u8; 4]], rules: &mut Rules) -> Result<(), Fault>
+    requires { rules.old.items ≡ [] }
+    ensures { Fills (words_of words.now) rules.new.items result }
 {
-    let mut rules = ArrayVec::new();
     let mut lowest = 0;
     loop {
         let place = 8 * rules.len();
         let at = WordsFrom { words, place };
         let Some(number) = at.opening(lowest)? else {
-            at.end()?;
-            return Ok(rules);
+            return at.end();
         };
         let rule = at.rule(number)?;
         rules.push(rule);
@@ -75,16 +74,28 @@ fn read_rules(words: &[[u8; 4]]) -> Result<Rules, Fault>
     }
 }
 
-// The rules of a sheet. What is told holds for a rule list of any number of places, and there is always room here.
-pub fn rules_of_sheet(bytes: &[u8]) -> Result<Rules, Fault>
-    ensures here { MatchResult result (λ v. sheet_read bytes.now 256 ≡ accepted v.items) (λ f. sheet_read bytes.now 256 ≡ refused (code f.refusal) f.place f.layer) }
-    ensures anywhere { Tells bytes.now result }
+// Fills a list with the rules of a sheet, whatever it held. What is told holds for a rule list of any number of places, and there is always room here.
+// The list is lent, since it is large: each function that handed it on by value would have one more of it on the stack.
+pub fn fill_rules(bytes: &[u8], rules: &mut Rules) -> Result<(), Fault>
+    ensures here { MatchResult result (λ _. sheet_read bytes.now 256 ≡ accepted rules.new.items) (λ f. sheet_read bytes.now 256 ≡ refused (code f.refusal) f.place f.layer) }
+    ensures anywhere { FillsFrom bytes.now rules.new.items result }
 {
     let (words, rest) = bytes.as_chunks::<4>();
     if bytes.is_empty() || !rest.is_empty() {
         return Err(Fault::at(Refusal::ByteCount, 0));
     }
-    read_rules(words)
+    rules.clear();
+    read_rules(words, rules)
+}
+
+// The rules of a sheet.
+pub fn rules_of_sheet(bytes: &[u8]) -> Result<Rules, Fault>
+    ensures here { MatchResult result (λ v. sheet_read bytes.now 256 ≡ accepted v.items) (λ f. sheet_read bytes.now 256 ≡ refused (code f.refusal) f.place f.layer) }
+    ensures anywhere { Tells bytes.now result }
+{
+    let mut rules = Rules::new();
+    fill_rules(bytes, &mut rules)?;
+    Ok(rules)
 }
 
 // Reads a sheet into a rule list, and tells how many rules it has. A refused read leaves the list as it was.
@@ -92,7 +103,8 @@ pub fn read_sheet(bytes: &[u8], rules: &mut [RuleRow]) -> Result<usize, Fault>
     ensures answer { Answers (sheet_read bytes.now (length rules.old)) result }
     ensures list { rules.new ≡ listed (sheet_read bytes.now (length rules.old)) rules.old }
 {
-    let read = rules_of_sheet(bytes)?;
+    let mut read = Rules::new();
+    fill_rules(bytes, &mut read)?;
     let count = read.len();
     if count > rules.len() {
         return Err(Fault::at(Refusal::NoRoom, 0));

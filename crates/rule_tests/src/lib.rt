@@ -4,6 +4,8 @@
 #[cfg(test)]
 mod kinds;
 #[cfg(test)]
+mod own_kind;
+#[cfg(test)]
 mod reading;
 #[cfg(test)]
 mod writing;

@@ -2,6 +2,7 @@
 #![tactic(auto)]
 
 ghost use Rattle.std.specs.Prelude.{◌≡◌, Some};
+ghost use Rattle.std.specs.Net.Addr.{IsIpv4OfBits};
 ghost use Rattle.fields.specs.Refusals.{code};
 ghost use Rattle.texts.specs.declared.notation.Notation.TheVariants.{Dotted, Plain};
 ghost use Rattle.texts.specs.Text.{address_text, pattern_text, rule_text, layer_text, fault_text};
@@ -22,11 +23,18 @@ pub const MOST_BYTES: usize = 65536;
 #[derive(Clone, Copy)]
 pub struct AddressText(pub u32);
 
+// The address that prints itself, of a number, whose highest byte is the first.
+fn address_of(number: u32) -> Ipv4Addr
+    ensures { IsIpv4OfBits result number }
+{
+    Ipv4Addr::from(number)
+}
+
 impl fmt::Display for AddressText {
     ghost output = { λ a. Some (address_text a.0) };
 
     fn fmt<W: fmt::Write>(&self, f: &mut fmt::Formatter<W>) -> fmt::Result {
-        let address = Ipv4Addr::from(self.0);
+        let address = address_of(self.0);
         write!(f, "{address}")
     }
 }

@@ -1,13 +1,14 @@
 // A node of a trie.
-ghost use Rattle.std.specs.Prelude.{◌≡◌};
+ghost use Rattle.std.specs.Prelude.{◌≡◌, ◌<◌};
 
+use fields::link::Link;
 use fields::numbers::Label;
 
 #[derive(Clone, Copy)]
 pub struct Node {
     // The places of the nodes one bit further on.
-    pub(crate) zero: Option<u16>,
-    pub(crate) one: Option<u16>,
+    pub(crate) zero: Link,
+    pub(crate) one: Link,
     pub(crate) label: Option<Label>,
 }
 
@@ -16,12 +17,13 @@ impl Node {
 
     // Names the node one bit further on.
     pub(crate) fn turn(&mut self, bit: bool, next: u16)
+        requires { next < 65535 }
         ensures { self.new ≡ turned self.old bit next }
     {
         if bit {
-            self.one = Some(next);
+            self.one = Link::to(next);
         } else {
-            self.zero = Some(next);
+            self.zero = Link::to(next);
         }
     }
 }

@@ -4,6 +4,7 @@ ghost use Rattle.tries.specs.Nodes.{no_node, kid, tag, grown, marked, look, deep
 
 use crate::node::Node;
 use crate::path::BitPath;
+use fields::link::NOWHERE;
 use fields::numbers::Label;
 use finders::finder::ROOM;
 use std::alloc::{AllocError, Global};
@@ -13,8 +14,8 @@ const MOST: usize = 1 + 32 * ROOM;
 
 // A node with nothing further on and no label. A constant: with `Node::default()` the proof that a grown list is a tree did not close.
 const BARE: Node = Node {
-    zero: None,
-    one: None,
+    zero: NOWHERE,
+    one: NOWHERE,
     label: None,
 };
 
@@ -56,7 +57,8 @@ impl Nodes {
         ensures { result ≡ kid self.now.list.items at bit }
     {
         let node = &self.list[at as usize];
-        if bit { node.one } else { node.zero }
+        let link = if bit { node.one } else { node.zero };
+        link.place()
     }
 
     // The label of a node.

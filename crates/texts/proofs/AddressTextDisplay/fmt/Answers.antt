@@ -12,4 +12,4 @@ returns-clause-writes g c p k =
     let low : n < 2 ^ 32 = search rules in
     let first : n / 2 ^ 24 % 256 ≡ n / 2 ^ 24 = mod-eq_of_lt (omega arith) in
     let text = ap (λ (x : ℕ). ipv4_text (x ∷ n / 2 ^ 16 % 256 ∷ n / 2 ^ 8 % 256 ∷ n % 256 ∷ [])) first in
-    has_written_of_eq _ _ _ _ _ (ap ipv4_text c.from-address.ensures ∙ text ∙ simp append_assoc refl) (c.write.ensures.writes p k)
+    has_written_of_eq _ _ _ _ _ (ap ipv4_text c.address_of-address.ensures ∙ text ∙ simp append_assoc refl) (c.write.ensures.writes p k)

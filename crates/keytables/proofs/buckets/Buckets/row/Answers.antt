@@ -12,8 +12,8 @@ pub loop-link-init : goal.loop-link-init
 loop-link-init c =
     let t = c.args.self.now in
     let k = c.args.key in
-    let x : c.index-link.result.now ≡ get_or (vec_items t.heads) (bucket k) None = search (rules, get_or_read) in
-    rw x (way_start t.sound.chained (bucket k) (has_key (vec_items t.rows) k) (bucket_own (vec_items t.rows) k))
+    let x : c.index.result.now ≡ get_or (vec_items t.heads) (bucket k) None = search (rules, get_or_read) in
+    rw (c.place-link.ensures, x) (way_start t.sound.chained (bucket k) (has_key (vec_items t.rows) k) (bucket_own (vec_items t.rows) k))
 
 pub returns-then-eq-clause-row : goal.returns-then-eq-clause-row
 unfolding row_of
@@ -31,7 +31,7 @@ loop-link-preserved c =
     let i = c.from-i.result in
     let y : c.index-row.result.now ≡ get_or rows i no_row = search (rules, get_or_read) in
     let h : same_key (get_or rows i no_row).key c.args.key ≡ false = cc (derived_same c.index-row.result.now.key c.args.key, c.if-eq.ensures) in
-    rw y (way_more (c.args.self.now.sound).chained (bucket k) (has_key rows k) (bucket_own rows k) (link_of c.loop-link.link) i c.loop-link.invariant (search rules) h)
+    rw (c.place-link-in-Some.ensures, y) (way_more (c.args.self.now.sound).chained (bucket k) (has_key rows k) (bucket_own rows k) (link_of c.loop-link.link) i c.loop-link.invariant (search rules) h)
 
 pub returns-clause-row : goal.returns-clause-row
 unfolding row_of

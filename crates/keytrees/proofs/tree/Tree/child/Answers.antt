@@ -14,7 +14,7 @@ loop-link-init c =
     let p = c.args.parent in
     let x = c.args.number in
     let y : c.index.result.now ≡ get_or nodes p no_node = search (rules, get_or_read) in
-    rw y (way_start t.grown.chained (suc p) (is_child nodes p x) (child_own nodes p x))
+    rw (c.place-link.ensures, y) (way_start t.grown.chained (suc p) (is_child nodes p x) (child_own nodes p x))
 
 pub returns-then-node-number-clause-child : goal.returns-then-node-number-clause-child
 unfolding child_of
@@ -35,7 +35,7 @@ loop-link-preserved c =
     let i = c.from-place.result in
     let y : c.index-node.result.now ≡ get_or nodes i no_node = search (rules, get_or_read) in
     let h : is_child nodes p x i ≡ false = grind (arith, nat_tests) in
-    rw y (way_more t.grown.chained (suc p) (is_child nodes p x) (child_own nodes p x) (link_of c.loop-link.link) i c.loop-link.invariant (search rules) h)
+    rw (c.place-link-in-Some.ensures, y) (way_more t.grown.chained (suc p) (is_child nodes p x) (child_own nodes p x) (link_of c.loop-link.link) i c.loop-link.invariant (search rules) h)
 
 pub returns-clause-child : goal.returns-clause-child
 unfolding child_of
