@@ -1,6 +1,5 @@
 -- Headers, their bytes, and the numbers in them.
-use Rattle.std.proofs.Common.{◌≡◌, ℕ, zero, suc, ◌+◌, ◌*◌, ◌/◌, ◌%◌, ◌^◌, ◌<◌, false, not, ◌||◌, eqb, List, [], ◌∷◌, ◌++◌, map, length, take, drop, sym, refl, ap, ◌∙◌, ap₂, add-zero, arith}
-use Rattle.std.specs.Int.{w16, w32, to_be_bytes}
+use Rattle.std.proofs.Common.{◌≡◌, ℕ, zero, suc, ◌+◌, ◌*◌, ◌/◌, ◌%◌, ◌<◌, false, not, ◌||◌, eqb, List, [], ◌∷◌, ◌++◌, map, length, take, drop, sym, refl, ap, ◌∙◌, ap₂, add-zero, arith}
 use Rattle.std.specs.List.{range_with_len, list_any, AllByRecursion}
 use Rattle.std.specs.Simd.{first_chunks}
 use Rattle.std.proofs.lemmas.List.FromFn.{fill_by_all}
@@ -81,12 +80,6 @@ header_back h = λ t. record {
   ports = record { source = two_back h.ports.source t; destination = two_back h.ports.destination t };
   protocol = h.protocol;
 }
-
-pub two_be : (n : ℕ) → n < 2 ^ 16 → to_be_bytes w16 n ≡ two_bytes n
-two_be n l = ap₂ (λ x y. x ∷ y ∷ []) (omega arith) (omega arith)
-
-pub four_be : (n : ℕ) → n < 2 ^ 32 → to_be_bytes w32 n ≡ four_bytes n
-four_be n l = ap₂ (λ x y. x ++ y) (ap₂ (λ x y. x ∷ y ∷ []) (omega arith) (omega arith)) (ap₂ (λ x y. x ∷ y ∷ []) (omega arith) (omega arith))
 
 -- ---- from bytes to numbers and back
 two_again : (a b : ℕ) → b < 256 → two_bytes (a * 256 + b) ≡ a ∷ b ∷ []
