@@ -1,5 +1,5 @@
 // The sheet reader.
-ghost use Rattle.std.specs.Prelude.{◌≡◌, ◌+◌, ◌*◌, ◌^◌, ◌<◌, ◌≤◌, [], length, IfSome, IfOk, MatchResult};
+ghost use Rattle.std.specs.Prelude.{◌≡◌, ◌+◌, ◌*◌, ◌^◌, ◌<◌, ◌≤◌, [], length, IfSome, IfOk, IfErr, MatchResult};
 ghost use Rattle.fields.specs.Refusals.{code};
 ghost use Rattle.fields.specs.declared.refusal.Refusal.TheVariants.{SheetEnd};
 ghost use Rattle.sheets.specs.Faults.{fault_at};
@@ -74,9 +74,9 @@ fn read_rules(words: &[[u8; 4]], rules: &mut Rules) -> Result<(), Fault>
     }
 }
 
-// Fills a list with the rules of a sheet, whatever it held. What is told holds for a rule list of any number of places, and there is always room here.
-// The list is lent, since it is large: each function that handed it on by value would have one more of it on the stack.
-pub fn fill_rules(bytes: &[u8], rules: &mut Rules) -> Result<(), Fault>
+// The rules of the bytes of a sheet, put into an empty list.
+fn read_bytes(bytes: &[u8], rules: &mut Rules) -> Result<(), Fault>
+    requires { rules.old.items ≡ [] }
     ensures here { MatchResult result (λ _. sheet_read bytes.now 256 ≡ accepted rules.new.items) (λ f. sheet_read bytes.now 256 ≡ refused (code f.refusal) f.place f.layer) }
     ensures anywhere { FillsFrom bytes.now rules.new.items result }
 {
@@ -84,8 +84,25 @@ pub fn fill_rules(bytes: &[u8], rules: &mut Rules) -> Result<(), Fault>
     if bytes.is_empty() || !rest.is_empty() {
         return Err(Fault::at(Refusal::ByteCount, 0));
     }
-    rules.clear();
     read_rules(words, rules)
+}
+
+// Fills a list with the rules of a sheet, whatever it held. A refused read leaves it empty.
+// What is told holds for a rule list of any number of places, and there is always room here.
+// The list is lent, since it is large: each function that handed it on by value would have one more of it on the stack.
+pub fn fill_rules(bytes: &[u8], rules: &mut Rules) -> Result<(), Fault>
+    ensures here { MatchResult result (λ _. sheet_read bytes.now 256 ≡ accepted rules.new.items) (λ f. sheet_read bytes.now 256 ≡ refused (code f.refusal) f.place f.layer) }
+    ensures anywhere { FillsFrom bytes.now rules.new.items result }
+    ensures refused { IfErr result (λ _. rules.new.items ≡ []) }
+{
+    rules.clear();
+    match read_bytes(bytes, rules) {
+        Ok(()) => Ok(()),
+        Err(fault) => {
+            rules.clear();
+            Err(fault)
+        }
+    }
 }
 
 // The rules of a sheet.

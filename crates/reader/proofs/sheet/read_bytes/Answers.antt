@@ -1,7 +1,7 @@
 use Rattle.std.proofs.Common.{◌≡◌, ◌%◌, length, sym, arith}
 use Rattle.std.proofs.lemmas.Bool.Decides.{nat_tests}
 use Rattle.reader.proofs.Verdicts.{told, told_here}
-use Rattle.reader.proofs.sheet.fill_rules.Goals as goal
+use Rattle.reader.proofs.sheet.read_bytes.Goals as goal
 
 pub returns-clause-here : goal.returns-clause-here
 returns-clause-here c =
